@@ -1,0 +1,31 @@
+-- The laws of tries made in order.
+-- Assumes nothing.
+use Prim.Native.Nat.{ℕ}
+use mathlib.Core.Path.{_≡_, refl, sym, ap, _∙_}
+use mathlib.Core.Bool.{Bool, true, false, true≢false}
+use Rattle.kinds.specs.Answers.{Answer, Answer.given, Answer.refused, taken, refuseIf, _andThen_, isRefused}
+
+-- A try that does not refuse is passed over.
+pub then-next : {A : Type 0} (a : Answer (Unit {0})) (b : Answer A) → isRefused a ≡ false → a andThen b ≡ b
+then-next (given x) b e = refl
+then-next (refused number place list) b e = absurd (true≢false e)
+
+-- A try that refuses is the answer.
+pub then-refused : (a b : Answer (Unit {0})) → isRefused a ≡ true → a andThen b ≡ a
+then-refused (given x) b e = absurd (true≢false (sym e))
+then-refused (refused number place list) b e = refl
+
+-- Where tries in order do not refuse, neither did the first.
+pub then-both : {A : Type 0} (a : Answer (Unit {0})) (b : Answer A) → isRefused (a andThen b) ≡ false → (isRefused a ≡ false) × (isRefused b ≡ false)
+then-both (given x) b e = (refl, e)
+then-both (refused number place list) b e = absurd (true≢false e)
+
+-- What is not refused is taken.
+pub taken-is : (a : Answer (Unit {0})) → isRefused a ≡ false → a ≡ taken
+taken-is (given x) e = refl
+taken-is (refused number place list) e = absurd (true≢false e)
+
+-- A test that does not refuse does not hold.
+pub passed : (b : Bool) (number place list : ℕ) → isRefused (refuseIf b number place list) ≡ false → b ≡ false
+passed true number place list e = absurd (true≢false e)
+passed false number place list e = refl

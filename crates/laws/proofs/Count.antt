@@ -1,0 +1,40 @@
+-- The laws of sums and counts.
+-- Assumes nothing.
+use mathlib.Core.Path.{_≡_, refl, subst}
+use mathlib.Core.Bool.{Bool, true, false}
+use Prim.Native.Nat.{ℕ, zero, suc, _+_, _≤_, _<_}
+use native.Mathlib.Omega.{arith}
+use native.Mathlib.Decide.{ℕ-discrete}
+use Rattle.laws.specs.Count.{total, bit, count}
+
+pub total-le : (n : ℕ) (f g : ℕ → ℕ) → ((v : ℕ) → v < n → f v ≤ g v) → total n f ≤ total n g
+total-le zero f g h = omega arith
+total-le (suc n) f g h = omega (arith, h n (omega arith), total-le n f g (λ v l. h v (omega arith)))
+
+pub total-lt : (n : ℕ) (f g : ℕ → ℕ) (w : ℕ) → w < n → f w < g w → ((v : ℕ) → v < n → f v ≤ g v) → total n f < total n g
+total-lt zero f g w l s h = omega arith
+total-lt (suc n) f g w l s h = go (ℕ-discrete w n) (λ m. total-lt n f g w m s (λ v l. h v (omega arith)))
+  where
+    rest : total n f ≤ total n g
+    rest = total-le n f g (λ v l. h v (omega arith))
+
+    go : Dec (w ≡ n) → (w < n → total n f < total n g) → total (suc n) f < total (suc n) g
+    go (yes e) ih = let t : f n < g n = subst (λ (x : ℕ). f x < g x) e s in omega (arith, rest)
+    go (no e) ih = omega (arith, h n (omega arith), ih (omega arith))
+
+pub total-add : (n : ℕ) (f g : ℕ → ℕ) → total n (λ v. f v + g v) ≡ total n f + total n g
+total-add zero f g = omega arith
+total-add (suc n) f g = omega (arith, total-add n f g)
+
+pub total-same : (n : ℕ) (f g : ℕ → ℕ) → ((v : ℕ) → v < n → f v ≡ g v) → total n f ≡ total n g
+total-same zero f g h = refl
+total-same (suc n) f g h = omega (arith, h n (omega arith), total-same n f g (λ v l. h v (omega arith)))
+
+pub bit-most : (b : Bool) → bit b ≤ 1
+bit-most true = omega arith
+bit-most false = omega arith
+
+-- A set has at most as many numbers as there are.
+pub count-most : (n : ℕ) (set : ℕ → Bool) → count n set ≤ n
+count-most zero set = omega arith
+count-most (suc n) set = omega (arith, bit-most (set n), count-most n set)

@@ -1,0 +1,4 @@
+pub mod Fold
+pub mod Count
+pub mod Decide
+pub mod Lists

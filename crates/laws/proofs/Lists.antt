@@ -1,0 +1,36 @@
+-- Lists filled from the front, one store a turn or one lent part a turn.
+-- Assumes nothing.
+use Prim.Native.Nat.{ℕ, zero, suc, _+_, _*_, _-_, _<_, _≤_}
+use mathlib.Core.Path.{_≡_, refl, sym, ap}
+use mathlib.Core.List.{List, [], _∷_, _++_, append-assoc}
+use native.Mathlib.Nat.{suc-mul, mul-le-mul-right, add-sub-cancel-left}
+use native.Mathlib.Omega.{arith}
+use native.Mathlib.Numerals.{add-one}
+use lib.ListN.{length, getD, set, take, drop, replicate}
+use lib.Seq.{drop-cons, set-at, take-at, drop-at, drop-drop}
+
+-- `front` fills the first j places of d: a store of v at j makes it one longer.
+pub store-next : {A : Type 0} (front d : List A) (j : ℕ) (v : A) → length front ≡ j → j < length d
+    → set (front ++ drop j d) j v ≡ (front ++ (v ∷ [])) ++ drop (j + 1) d
+store-next front d j v e h =
+    rw (add-one j, drop-cons d j v h, set-at front (getD d j v) (drop (suc j) d) v j e) (sym (append-assoc front (v ∷ []) (drop (suc j) d)))
+
+pub replicate-more : {A : Type 0} (n : ℕ) (v : A) → replicate n v ++ (v ∷ []) ≡ replicate (n + 1) v
+replicate-more {A} n v = rw (add-one n) (go n)
+  where
+    go : (n : ℕ) → replicate n v ++ (v ∷ []) ≡ replicate (suc n) v
+    go zero = refl
+    go (suc n) = ap (λ (l : List A). v ∷ l) (go n)
+
+-- `front` fills the first `at` places of d, and the part from `at` to at + n was lent and holds `part`.
+pub part-back : {A : Type 0} (front d part : List A) (at n : ℕ) → length front ≡ at
+    → take at (front ++ drop at d) ++ (part ++ drop (at + n - at) (drop at (front ++ drop at d))) ≡ (front ++ part) ++ drop (at + n) d
+part-back front d part at n e =
+    rw (take-at front (drop at d) at e, drop-at front (drop at d) at e, add-sub-cancel-left at n, drop-drop n at d) (sym (append-assoc front part (drop (at + n) d)))
+
+-- Parts of n places: the next one's start, and that it is within k of them.
+pub part-next : (i n : ℕ) → (i + 1) * n ≡ i * n + n
+part-next i n = rw (add-one i) (suc-mul i n)
+
+pub part-fits : (i k n : ℕ) → i < k → i * n + n ≤ k * n
+part-fits i k n h = omega (arith, suc-mul i n, mul-le-mul-right n h)
