@@ -2,11 +2,10 @@
 -- The idea: a refusal can be made again from its three numbers. Assumes nothing.
 use Prim.Native.Nat.{ℕ}
 use mathlib.Core.Path.{_≡_, refl, sym, ap, _∙_}
-use native.Mathlib.Omega.{arith}
 use lib.Dec.{eqb}
 use Rattle.laws.specs.Fold.{pick}
 use Rattle.kinds.specs.Refusals.{numberOf, placeOf, listOf}
-use Rattle.kinds.specs.Answers.{Answer, Answer.given, Answer.refused, refusalAnswer, judgedAnswer}
+use Rattle.kinds.specs.Answers.{judgedAnswer}
 use Rattle.kinds.specs.declared.LineList.{LineList}
 use Rattle.kinds.specs.declared.LineList.the-variants.{Only, First as FirstList, Second as SecondList}
 use Rattle.kinds.specs.declared.Asked.the-variants.{First, Second}

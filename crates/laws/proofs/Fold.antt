@@ -4,7 +4,7 @@ use Prim.Native.Nat.{ℕ, zero, suc, _+_, _-_, _<_, _≤_}
 use mathlib.Core.Path.{_≡_, refl, sym, ap, _∙_, subst}
 use mathlib.Core.Bool.{Bool, true, false, _||_, true≢false}
 use mathlib.Core.Logic.{_⊎_, _⊎_.inl, _⊎_.inr}
-use native.Mathlib.Nat.{sub-zero, add-zero, add-suc, suc-add, zero-add, le-of-suc-le-suc, not-suc-le-zero}
+use native.Mathlib.Nat.{sub-zero, add-zero, add-suc, suc-add, zero-add}
 use native.Mathlib.Numerals.{add-one}
 use native.Mathlib.Omega.{arith}
 use native.Mathlib.Decide.{ℕ-discrete}

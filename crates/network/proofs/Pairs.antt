@@ -1,0 +1,141 @@
+-- The judge's memory: pairs have different numbers unless they are the same pair, and the set of the lines
+-- before place p becomes that of the lines before place p + 1 by putting one number in. Assumes nothing.
+use Prim.Native.Nat.{ℕ, zero, suc, _+_, _-_, _*_, _/_, _<_, _≤_}
+use mathlib.Core.Path.{_≡_, refl, sym, _∙_}
+use mathlib.Core.Bool.{Bool, true, false, _||_}
+use mathlib.Core.List.{List}
+use mathlib.Core.Logic.{_≢_, _⊎_, _⊎_.inl, _⊎_.inr}
+use native.Mathlib.Nat.{suc-mul, mul-suc}
+use native.Mathlib.Decide.{ℕ-discrete, decLt}
+use native.Mathlib.Omega.{arith}
+use borrow.Author.Tests.{lt-ltb, le-ltb, eqb-true, eqb-false}
+use lib.Dec.{eqb}
+use lib.ListN.{length, replicate, length-replicate}
+use Rattle.laws.specs.Fold.{firstFrom}
+use Rattle.laws.proofs.Fold.{any-more}
+use Rattle.bits.specs.Sets.{isIn, putIn}
+use Rattle.bits.proofs.Sets.{in-put, in-none, length-put}
+use Rattle.network.specs.Lines.{endOne, endTwo}
+use Rattle.network.specs.Judging.{sameEnds, stoodBefore}
+use Rattle.network.specs.Pairs.{pairAt, pairNumber, Remembers}
+use Rattle.network.proofs.Ends.{same-ends, ends-same}
+
+-- How many pairs have a higher station below h.
+abbrev pairsBelow : ℕ → ℕ
+pairsBelow h = h * (h - 1) / 2
+
+pairs-next : (h : ℕ) → pairsBelow (suc h) ≡ pairsBelow h + h
+pairs-next zero = refl
+pairs-next (suc g) =
+    let e : suc g - 1 ≡ g = omega arith in
+    let f : suc (suc g) - 1 ≡ suc g = omega arith in
+    rw (e, f) (omega (arith, suc-mul (suc g) (suc g), mul-suc (suc g) g))
+
+pairs-rise : (h k : ℕ) → h ≤ k → pairsBelow h ≤ pairsBelow k
+pairs-rise h zero l = let e : h ≡ 0 = omega arith in rw e (omega arith)
+pairs-rise h (suc k) l = go (ℕ-discrete h (suc k)) (λ m. pairs-rise h k m)
+  where
+    go : Dec (h ≡ suc k) → (h ≤ k → pairsBelow h ≤ pairsBelow k) → pairsBelow h ≤ pairsBelow (suc k)
+    go (yes e) ih = rw e (omega arith)
+    go (no n) ih = omega (arith, ih (omega arith), pairs-next k)
+
+-- The pair's number stands among those of its higher station.
+pair-above : (low high : ℕ) → pairsBelow high ≤ pairAt low high
+unfolding pairAt
+pair-above low high = omega arith
+
+pair-below : (low high top : ℕ) → low < high → high < top → pairAt low high < pairsBelow top
+unfolding pairAt
+pair-below low high top l h = omega (arith, pairs-next high, pairs-rise (suc high) top (omega arith))
+
+same-higher : (low low′ high : ℕ) → pairAt low high ≡ pairAt low′ high → low ≡ low′
+unfolding pairAt
+same-higher low low′ high e = omega arith
+
+-- One number, one pair.
+pair-once : (low high low′ high′ : ℕ) → low < high → low′ < high′ → pairAt low high ≡ pairAt low′ high′ → (low ≡ low′) × (high ≡ high′)
+pair-once low high low′ high′ l l′ e = go (decLt high high′) (decLt high′ high)
+  where
+    equal : high ≡ high′ → (low ≡ low′) × (high ≡ high′)
+    equal f = (same-higher low low′ high (e ∙ rw (← f)), f)
+
+    go : Dec (high < high′) → Dec (high′ < high) → (low ≡ low′) × (high ≡ high′)
+    go (yes h) d = absurd (omega (arith, pair-below low high high′ l h, pair-above low′ high′))
+    go (no n) (yes h) = absurd (omega (arith, pair-below low′ high′ high l′ h, pair-above low high))
+    go (no n) (no m) = equal (omega arith)
+
+-- The two ways to write a pair, as its number sees them.
+pub pair-lower : (a b : ℕ) → a < b → pairNumber a b ≡ pairAt a b
+unfolding pairNumber
+pair-lower a b h = rw (lt-ltb a b h)
+
+pub pair-higher : (a b : ℕ) → b ≤ a → pairNumber a b ≡ pairAt b a
+unfolding pairNumber
+pair-higher a b h = rw (le-ltb a b h)
+
+pair-turned : (a b : ℕ) → a ≢ b → pairNumber a b ≡ pairNumber b a
+pair-turned a b n = go (decLt a b)
+  where
+    go : Dec (a < b) → pairNumber a b ≡ pairNumber b a
+    go (yes h) = pair-lower a b h ∙ sym (pair-higher b a (omega arith))
+    go (no m) = pair-higher a b (omega arith) ∙ sym (pair-lower b a (omega arith))
+
+-- Two pairs with one number are the same pair.
+number-once : (a b c d : ℕ) → a ≢ b → c ≢ d → pairNumber a b ≡ pairNumber c d → ((a ≡ c) × (b ≡ d)) ⊎ ((a ≡ d) × (b ≡ c))
+number-once a b c d n m e = go (decLt a b) (decLt c d)
+  where
+    go : Dec (a < b) → Dec (c < d) → ((a ≡ c) × (b ≡ d)) ⊎ ((a ≡ d) × (b ≡ c))
+    go (yes h) (yes k) = inl (pair-once a b c d h k (cc (pair-lower a b h, pair-lower c d k)))
+    go (yes h) (no k) = inr (pair-once a b d c h (omega arith) (cc (pair-lower a b h, pair-higher c d (omega arith))))
+    go (no h) (yes k) = let (x, y) = pair-once b a c d (omega arith) k (cc (pair-higher a b (omega arith), pair-lower c d k)) in inr (y, x)
+    go (no h) (no k) =
+        let (x, y) = pair-once b a d c (omega arith) (omega arith) (cc (pair-higher a b (omega arith), pair-higher c d (omega arith))) in
+        inl (y, x)
+
+once-number : (a b c d : ℕ) → a ≢ b → ((a ≡ c) × (b ≡ d)) ⊎ ((a ≡ d) × (b ≡ c)) → pairNumber c d ≡ pairNumber a b
+once-number a b c d n (inl (x, y)) = rw (x, y)
+once-number a b c d n (inr (x, y)) = rw (← x, ← y) (sym (pair-turned a b n))
+
+-- Comparing numbers is comparing pairs.
+number-test : (a b c d : ℕ) → a ≢ b → c ≢ d → eqb (pairNumber c d) (pairNumber a b) ≡ sameEnds a b c d
+number-test a b c d n m = go (eqb (pairNumber c d) (pairNumber a b)) (sameEnds a b c d) refl refl
+  where
+    go : (x y : Bool) → eqb (pairNumber c d) (pairNumber a b) ≡ x → sameEnds a b c d ≡ y → x ≡ y
+    go true true e f = refl
+    go false false e f = refl
+    go true false e f =
+        sym (sym f ∙ ends-same a b c d (number-once a b c d n m (sym (eqb-true (pairNumber c d) (pairNumber a b) e))))
+    go false true e f = absurd (eqb-false (pairNumber c d) (pairNumber a b) e (once-number a b c d n (same-ends a b c d f)))
+
+-- 8,184 words have room for every pair of 1,024 stations.
+number-fits : (a b : ℕ) → a < 1024 → b < 1024 → a ≢ b → pairNumber a b / 64 < 8184
+number-fits a b h k n = go (decLt a b)
+  where
+    go : Dec (a < b) → pairNumber a b / 64 < 8184
+    go (yes l) = omega (arith, pair-lower a b l, pair-below a b 1024 l k)
+    go (no l) = omega (arith, pair-higher a b (omega arith), pair-below b a 1024 (omega arith) h)
+
+-- Before any line, nothing is remembered.
+pub remember-none : (lines : List ℕ) → Remembers (replicate 8184 0) lines 0
+unfolding firstFrom
+remember-none lines = record { words = length-replicate {A = ℕ} 8184 0; exactly = λ a b h k n. in-none 8184 (pairNumber a b) }
+
+-- Putting in the pair of the line at place p remembers one line more.
+pub remember-more : (pairs lines : List ℕ) (p : ℕ) → Remembers pairs lines p
+    → endOne lines p < 1024 → endTwo lines p < 1024 → endOne lines p ≢ endTwo lines p
+    → Remembers (putIn pairs (pairNumber (endOne lines p) (endTwo lines p))) lines (p + 1)
+remember-more pairs lines p R h k n =
+    record { words = length-put pairs (pairNumber (endOne lines p) (endTwo lines p)) ∙ R .words; exactly = exactly }
+  where
+    swap : (x y : Bool) → (x || y) ≡ (y || x)
+    swap true true = refl
+    swap true false = refl
+    swap false true = refl
+    swap false false = refl
+
+    exactly : (a b : ℕ) → a < 1024 → b < 1024 → a ≢ b → isIn (putIn pairs (pairNumber (endOne lines p) (endTwo lines p))) (pairNumber a b) ≡ stoodBefore lines (p + 1) a b
+    exactly a b ha hb m =
+        let fits : pairNumber (endOne lines p) (endTwo lines p) / 64 < length pairs = rw (R .words) (number-fits (endOne lines p) (endTwo lines p) h k n) in
+        in-put pairs (pairNumber (endOne lines p) (endTwo lines p)) (pairNumber a b) fits
+        ∙ (rw (number-test a b (endOne lines p) (endTwo lines p) m n, R .exactly a b ha hb m)
+        (swap (sameEnds a b (endOne lines p) (endTwo lines p)) (stoodBefore lines p a b) ∙ sym (any-more (λ q. sameEnds a b (endOne lines q) (endTwo lines q)) p)))

@@ -1,0 +1,16 @@
+use borrow.Author.Needs.{needs}
+use Rattle.network.proofs.Pairs.{remember-none}
+use Rattle.network.proofs.judge_lines.Statement.{statement}
+use Rattle.network.proofs.judge_lines.Tie as tie
+
+slice-aggregate-judge-each : tie.Need-slice-aggregate-judge-each
+slice-aggregate-judge-each c = search needs
+
+judge-each-requires : tie.Need-judge-each-requires
+judge-each-requires c κs = (c .before .before .pre .0, c .before .before .pre .1, remember-none (c .before .before .args .lines .now))
+
+returns : tie.Need-returns
+returns c = search needs
+
+pub judge-lines-spec : {M : Type 1} → statement M
+judge-lines-spec = tie.close (tie.spec slice-aggregate-judge-each judge-each-requires returns)

@@ -1,0 +1,19 @@
+use borrow.Author.Tests.{lt-ltb, le-ltb}
+use Rattle.network.specs.Judging.{stationsJudged}
+use Rattle.network.proofs.judge_stations.Statement.{statement}
+use Rattle.network.proofs.judge_stations.Tie as tie
+
+returns : tie.Need-returns
+unfolding stationsJudged
+returns c = simp (lt-ltb _ _ (c .if1 .taken))
+
+returns-2 : tie.Need-returns-2
+unfolding stationsJudged
+returns-2 c = simp (le-ltb _ _ (c .before .if1 .left), lt-ltb _ _ (c .if2 .taken))
+
+returns-3 : tie.Need-returns-3
+unfolding stationsJudged
+returns-3 c = simp (le-ltb _ _ (c .before .if1 .left), le-ltb _ _ (c .if2 .left))
+
+pub judge-stations-spec : {M : Type 1} → statement M
+judge-stations-spec = tie.close (tie.spec returns returns-2 returns-3)

@@ -1,0 +1,174 @@
+// The line list of a network, and the judge of lines.
+use kinds::Judged;
+use kinds::LineList;
+use kinds::Place;
+use kinds::Refusal;
+use kinds::Station;
+use kinds::is_refused;
+ghost use mathlib.Core.Path.{_≡_};
+ghost use mathlib.Core.Bool.{false};
+ghost use mathlib.Core.Logic.{_≢_};
+ghost use Prim.Native.Nat.{_+_, _*_, _<_, _≤_};
+ghost use lib.ListN.{length, getD};
+ghost use Rattle.kinds.specs.Answers.{isRefused, judgedAnswer};
+ghost use Rattle.kinds.specs.Refusals.{listNumber};
+ghost use Rattle.network.specs.Lines.{endOne, endTwo};
+ghost use Rattle.network.specs.Judging.{stationsJudged, lengthJudged, endsJudged, lineJudged, linesJudged, listJudged};
+ghost use Rattle.network.specs.Pairs.{pairAt, pairNumber, Remembers};
+
+// A line: its two ends, as written.
+pub struct Line {
+    pub one: Station,
+    pub two: Station,
+}
+
+// The number at an index of a list, as a station; 0 past its end.
+fn end_at(lines: &[u16], index: usize) -> Station
+    ensures end { λ r. ⌜ r .0 ≡ getD (now (lines .entry)) index 0 ⌝ }
+{
+    if index < lines.len() {
+        return Station(lines[index]);
+    }
+    Station(0)
+}
+
+// The line at a place of the list.
+pub fn line_at(lines: &[u16], place: Place) -> Line
+    ensures ends { λ r. ⌜ (r .one .0 ≡ endOne (now (lines .entry)) (place .0)) × (r .two .0 ≡ endTwo (now (lines .entry)) (place .0)) ⌝ }
+{
+    let index = 2 * (place.0 as usize);
+    let one = end_at(lines, index);
+    let two = end_at(lines, index + 1);
+    Line { one, two }
+}
+
+// Refusal 1: n is not 1 to 1,024.
+pub fn judge_stations(n: usize) -> Judged
+    ensures answer { λ r. ⌜ judgedAnswer r ≡ stationsJudged n ⌝ }
+{
+    if n < 1 {
+        return Judged::Refused(Refusal::StationCount);
+    }
+    if 1024 < n {
+        return Judged::Refused(Refusal::StationCount);
+    }
+    Judged::Taken
+}
+
+// Refusal 2: the line list has an odd length or over 16,384 numbers.
+pub fn judge_length(list: LineList, lines: &[u16]) -> Judged
+    ensures answer { λ r. ⌜ judgedAnswer r ≡ lengthJudged (listNumber list) (now (lines .entry)) ⌝ }
+{
+    if lines.len() % 2 == 1 {
+        return Judged::Refused(Refusal::LineCount(list));
+    }
+    if 16384 < lines.len() {
+        return Judged::Refused(Refusal::LineCount(list));
+    }
+    Judged::Taken
+}
+
+// Refusals 6 and 7: whether each end is a station, and whether the two differ.
+fn judge_ends(list: LineList, n: usize, line: Line, place: Place) -> Judged
+    ensures answer { λ r. ⌜ judgedAnswer r ≡ endsJudged (listNumber list) n (line .one .0) (line .two .0) (place .0) ⌝ }
+{
+    let one = line.one.0;
+    let two = line.two.0;
+    if n <= one as usize {
+        return Judged::Refused(Refusal::EndOutside(list, place));
+    }
+    if n <= two as usize {
+        return Judged::Refused(Refusal::EndOutside(list, place));
+    }
+    if one == two {
+        return Judged::Refused(Refusal::EndsEqual(list, place));
+    }
+    Judged::Taken
+}
+
+// The number of a pair of stations, given the lower one and the higher one.
+fn pair_at(low: Station, high: Station) -> usize
+    requires { ⌜ (low .0 < high .0) × (high .0 < 1024) ⌝ }
+    ensures number { λ r. ⌜ r ≡ pairAt (low .0) (high .0) ⌝ }
+{
+    let h = high.0 as usize;
+    h * (h - 1) / 2 + low.0 as usize
+}
+
+// The number of the pair that a line joins, the same either way round.
+fn pair_number(line: Line) -> usize
+    requires { ⌜ (line .one .0 < 1024) × (line .two .0 < 1024) × (line .one .0 ≢ line .two .0) ⌝ }
+    ensures number { λ r. ⌜ r ≡ pairNumber (line .one .0) (line .two .0) ⌝ }
+{
+    let one = line.one;
+    let two = line.two;
+    if one.0 < two.0 {
+        return pair_at(one, two);
+    }
+    pair_at(two, one)
+}
+
+// The line at a place: refusals 6, 7 and 8. `pairs` remembers the lines before it, and then this one too.
+fn judge_line(list: LineList, n: usize, lines: &[u16], place: Place, pairs: &mut [u64]) -> Judged
+    requires { ⌜ (n ≤ 1024) × Remembers (now pairs) (now lines) (place .0) ⌝ }
+    ensures answer { λ r. ⌜ judgedAnswer r ≡ lineJudged (listNumber list) n (now (lines .entry)) (place .0) ⌝ }
+    ensures remembers { λ r. ⌜ (isRefused (judgedAnswer r) ≡ false → Remembers (now (pairs .exit)) (now (lines .entry)) (place .0 + 1)) ⌝ }
+{
+    let line = line_at(lines, place);
+    let ends = judge_ends(list, n, line, place);
+    if is_refused(ends) {
+        return ends;
+    }
+    let number = pair_number(line);
+    if bits::is_in(pairs, number) {
+        return Judged::Refused(Refusal::StoodEarlier(list, place));
+    }
+    bits::put_in(pairs, number);
+    Judged::Taken
+}
+
+// Each line in list order, with a set of pairs that remembers none yet.
+fn judge_each(list: LineList, n: usize, lines: &[u16], pairs: &mut [u64]) -> Judged
+    requires { ⌜ (n ≤ 1024) × (length (now lines) ≤ 16384) × Remembers (now pairs) (now lines) 0 ⌝ }
+    ensures answer { λ r. ⌜ judgedAnswer r ≡ linesJudged (listNumber list) n (now (lines .entry)) ⌝ }
+{
+    let count = lines.len() / 2;
+    for p in 0..count {
+        let judged = judge_line(list, n, lines, Place(p as u16), pairs);
+        if is_refused(judged) {
+            return judged;
+        }
+    }
+    Judged::Taken
+}
+
+// Each line in list order: refusals 6, 7 and 8. A bit for each pair of stations makes the time linear in the lines.
+fn judge_lines(list: LineList, n: usize, lines: &[u16]) -> Judged
+    requires { ⌜ (n ≤ 1024) × (length (now lines) ≤ 16384) ⌝ }
+    ensures answer { λ r. ⌜ judgedAnswer r ≡ linesJudged (listNumber list) n (now (lines .entry)) ⌝ }
+{
+    let mut pairs = [0u64; 8184];
+    judge_each(list, n, lines, &mut pairs)
+}
+
+// The judge of one of several lists: refusal 1, then 2, then each line in list order for 6, 7 and 8.
+pub fn judge_list(list: LineList, n: usize, lines: &[u16]) -> Judged
+    ensures answer { λ r. ⌜ judgedAnswer r ≡ listJudged (listNumber list) n (now (lines .entry)) ⌝ }
+{
+    let stations = judge_stations(n);
+    if is_refused(stations) {
+        return stations;
+    }
+    let length = judge_length(list, lines);
+    if is_refused(length) {
+        return length;
+    }
+    judge_lines(list, n, lines)
+}
+
+// The judge of a network: is it taken, and if not, which refusal is the first that holds, and where?
+pub fn judge(n: usize, lines: &[u16]) -> Judged
+    ensures answer { λ r. ⌜ judgedAnswer r ≡ listJudged 0 n (now (lines .entry)) ⌝ }
+{
+    judge_list(LineList::Only, n, lines)
+}
