@@ -1,6 +1,7 @@
 // Numbers that say what they number, and the refusals with their places.
 ghost use mathlib.Core.Path.{_≡_};
 ghost use Rattle.kinds.specs.Answers.{isRefused, judgedAnswer};
+ghost use Rattle.kinds.specs.Refusals.{listNumber, askedNumber, numberOf, placeOf, listOf};
 
 // The number of a station: 0 to n - 1.
 pub struct Station(pub u16);
@@ -88,5 +89,107 @@ pub fn is_refused(judged: Judged) -> bool
     match judged {
         Judged::Taken => false,
         Judged::Refused(_) => true,
+    }
+}
+
+// The number of a line list: 0 the only one, 1 the first, 2 the second.
+fn list_number(list: LineList) -> u8
+    ensures number { λ r. ⌜ r ≡ listNumber list ⌝ }
+{
+    match list {
+        LineList::Only => 0,
+        LineList::First => 1,
+        LineList::Second => 2,
+    }
+}
+
+// The number of an asked station: 0 the first, 1 the second.
+fn asked_number(asked: Asked) -> usize
+    ensures number { λ r. ⌜ r ≡ askedNumber asked ⌝ }
+{
+    match asked {
+        Asked::First => 0,
+        Asked::Second => 1,
+    }
+}
+
+// The number of a refusal's row.
+pub fn number_of(refusal: Refusal) -> u8
+    ensures number { λ r. ⌜ r ≡ numberOf refusal ⌝ }
+{
+    match refusal {
+        Refusal::StationCount => 1,
+        Refusal::LineCount(_) => 2,
+        Refusal::LevelRange => 3,
+        Refusal::StartCount => 4,
+        Refusal::Room => 5,
+        Refusal::EndOutside(_, _) => 6,
+        Refusal::EndsEqual(_, _) => 7,
+        Refusal::StoodEarlier(_, _) => 8,
+        Refusal::StartOutside(_) => 9,
+        Refusal::TakenAway(_) => 10,
+        Refusal::AskedStation(_) => 11,
+        Refusal::WeakLevel => 12,
+        Refusal::UnionCount => 13,
+        Refusal::Mark(_) => 20,
+        Refusal::FileEnds(_) => 21,
+        Refusal::EndCount(_) => 22,
+        Refusal::BytesFollow(_) => 23,
+        Refusal::FileLineCount(_) => 2,
+        Refusal::FileStartCount(_) => 4,
+    }
+}
+
+// The place of a refusal, as a bare number for those who write it out.
+pub fn place_of(refusal: Refusal) -> usize
+    ensures place { λ r. ⌜ r ≡ placeOf refusal ⌝ }
+{
+    match refusal {
+        Refusal::StationCount => 0,
+        Refusal::LineCount(_) => 0,
+        Refusal::LevelRange => 0,
+        Refusal::StartCount => 0,
+        Refusal::Room => 0,
+        Refusal::EndOutside(_, place) => place.0 as usize,
+        Refusal::EndsEqual(_, place) => place.0 as usize,
+        Refusal::StoodEarlier(_, place) => place.0 as usize,
+        Refusal::StartOutside(round) => round.0 as usize,
+        Refusal::TakenAway(position) => position.0 as usize,
+        Refusal::AskedStation(asked) => asked_number(asked),
+        Refusal::WeakLevel => 0,
+        Refusal::UnionCount => 0,
+        Refusal::Mark(offset) => offset.0,
+        Refusal::FileEnds(offset) => offset.0,
+        Refusal::EndCount(offset) => offset.0,
+        Refusal::BytesFollow(offset) => offset.0,
+        Refusal::FileLineCount(offset) => offset.0,
+        Refusal::FileStartCount(offset) => offset.0,
+    }
+}
+
+// Which list a refusal speaks of: 1 or 2 of a union, 3 the records of a file, else 0.
+pub fn list_of(refusal: Refusal) -> u8
+    ensures list { λ r. ⌜ r ≡ listOf refusal ⌝ }
+{
+    match refusal {
+        Refusal::StationCount => 0,
+        Refusal::LineCount(list) => list_number(list),
+        Refusal::LevelRange => 0,
+        Refusal::StartCount => 0,
+        Refusal::Room => 0,
+        Refusal::EndOutside(list, _) => list_number(list),
+        Refusal::EndsEqual(list, _) => list_number(list),
+        Refusal::StoodEarlier(list, _) => list_number(list),
+        Refusal::StartOutside(_) => 0,
+        Refusal::TakenAway(_) => 0,
+        Refusal::AskedStation(_) => 0,
+        Refusal::WeakLevel => 0,
+        Refusal::UnionCount => 0,
+        Refusal::Mark(_) => 3,
+        Refusal::FileEnds(_) => 3,
+        Refusal::EndCount(_) => 3,
+        Refusal::BytesFollow(_) => 3,
+        Refusal::FileLineCount(_) => 3,
+        Refusal::FileStartCount(_) => 3,
     }
 }

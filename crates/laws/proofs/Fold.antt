@@ -7,7 +7,7 @@ use mathlib.Core.Logic.{_⊎_, _⊎_.inl, _⊎_.inr}
 use native.Mathlib.Nat.{sub-zero, add-zero, add-suc, suc-add, zero-add}
 use native.Mathlib.Numerals.{add-one}
 use native.Mathlib.Omega.{arith}
-use native.Mathlib.Decide.{ℕ-discrete}
+use native.Mathlib.Decide.{ℕ-discrete, decLt}
 use Rattle.laws.specs.Fold.{pick, upTo, firstFrom, anyFrom}
 
 -- What is so at i, and later than i, is so from i on.
@@ -107,6 +107,19 @@ module _ {A : Type 0} (test : A → Bool) (f : ℕ → A) (last : A) where
       go (inl r) = absurd (true≢false (sym (r .passes) ∙ (ap test (sym (r .is)) ∙ e)))
       go (inr r) = r .none j (omega arith) (omega arith)
 
+  -- the first place that passes is the answer
+  pub first-at : (k p : ℕ) → p < k → test (f p) ≡ true → ((j : ℕ) → j < p → test (f j) ≡ false) → firstFrom test f last 0 k ≡ f p
+  first-at k p h e before = go (first-cases 0 k)
+    where
+      same : (r : FoundAt test f 0 k (firstFrom test f last 0 k)) → Dec (r .place < p) → Dec (p < r .place) → firstFrom test f last 0 k ≡ f p
+      same r (yes l) d = absurd (true≢false (sym (r .passes) ∙ before (r .place) l))
+      same r (no n) (yes l) = absurd (true≢false (sym e ∙ r .earlier p (omega arith) l))
+      same r (no n) (no m) = let is : r .place ≡ p = omega arith in r .is ∙ rw is
+
+      go : FoundAt test f 0 k (firstFrom test f last 0 k) ⊎ FoundNone test f last 0 k (firstFrom test f last 0 k) → firstFrom test f last 0 k ≡ f p
+      go (inl r) = same r (decLt (r .place) p) (decLt p (r .place))
+      go (inr r) = absurd (true≢false (sym e ∙ r .none p (omega arith) (omega arith)))
+
 -- Some number below k passes: it is there to be had.
 pub any-some : (test : ℕ → Bool) (k : ℕ) → anyFrom test 0 k ≡ true → (j : ℕ) × (j < k) × (test j ≡ true)
 any-some test k e = go (first-cases (λ b. b) test false 0 k)
@@ -114,6 +127,14 @@ any-some test k e = go (first-cases (λ b. b) test false 0 k)
     go : FoundAt (λ b. b) test 0 k (anyFrom test 0 k) ⊎ FoundNone (λ b. b) test false 0 k (anyFrom test 0 k) → (j : ℕ) × (j < k) × (test j ≡ true)
     go (inl r) = (r .place, omega (arith, r .below), r .passes)
     go (inr r) = absurd (true≢false (sym e ∙ r .is))
+
+-- One number below k that passes is enough.
+pub some-any : (test : ℕ → Bool) (k j : ℕ) → j < k → test j ≡ true → anyFrom test 0 k ≡ true
+some-any test k j h e = go (anyFrom test 0 k) refl
+  where
+    go : (b : Bool) → anyFrom test 0 k ≡ b → anyFrom test 0 k ≡ true
+    go true f = f
+    go false f = absurd (true≢false (sym e ∙ first-all (λ b. b) test false k f j h))
 
 -- One number more at the end.
 any-snoc : (test : ℕ → Bool) (k i : ℕ) → anyFrom test i (suc k) ≡ (anyFrom test i k || test (i + k))

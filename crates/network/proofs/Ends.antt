@@ -17,7 +17,7 @@ either-true : (x y : Bool) → (x || y) ≡ true → (x ≡ true) ⊎ (y ≡ tru
 either-true true y e = inl refl
 either-true false y e = inr e
 
-or-true : (x : Bool) → (x || true) ≡ true
+pub or-true : (x : Bool) → (x || true) ≡ true
 or-true true = refl
 or-true false = refl
 

@@ -1,10 +1,9 @@
 -- The laws of judging one line: what its ends and the lines before it make of it.
 -- Assumes nothing.
-use Prim.Native.Nat.{ℕ, _*_, _/_, _%_, _<_, _≤_}
+use Prim.Native.Nat.{ℕ, _*_, _/_, _%_, _≤_}
 use mathlib.Core.Path.{_≡_, refl, sym, _∙_}
 use mathlib.Core.Bool.{Bool, true, false, _||_, true≢false}
 use mathlib.Core.List.{List}
-use mathlib.Core.Logic.{_≢_}
 use native.Mathlib.Omega.{arith}
 use borrow.Author.Tests.{ltb-false, leb-false, eqb-false}
 use lib.ListN.{length}
@@ -12,6 +11,7 @@ use lib.Dec.{ltb, leb, eqb}
 use Rattle.kinds.specs.Answers.{Answer.refused, taken, refuseIf, isRefused}
 use Rattle.kinds.proofs.Answers.{then-next, then-refused, then-both, passed}
 use Rattle.network.specs.Lines.{endOne, endTwo}
+use Rattle.network.specs.Faults.{EndsGood}
 use Rattle.network.specs.Judging.{stoodBefore, stationsJudged, lengthJudged, endsJudged, lineJudged}
 
 -- Neither of two tests holds.
@@ -34,11 +34,6 @@ length-good list lines e =
     (omega arith, ltb-false 16384 (length lines) y)
 
 -- What is known of ends that are not refused.
-pub record EndsGood (n a b : ℕ) : Type 0 where
-  pub one-in : a < n
-  pub two-in : b < n
-  pub apart : a ≢ b
-
 pub ends-good : (list n a b p : ℕ) → isRefused (endsJudged list n a b p) ≡ false → EndsGood n a b
 unfolding endsJudged
 ends-good list n a b p e =

@@ -1,3 +1,4 @@
 pub mod Pairs
 pub mod Ends
 pub mod Judging
+pub mod Sound

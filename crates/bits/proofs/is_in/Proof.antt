@@ -1,3 +1,5 @@
+-- `bits::is_in` meets its contract. Past the words both the code and the definition say no; within them they are the same expression.
+-- Assumes nothing.
 use Prim.Native.Nat.{_%_, _^_}
 use mathlib.Core.Path.{refl}
 use native.Mathlib.Nat.{zero-div}

@@ -1,3 +1,5 @@
+-- `bits::put_in` meets its contract. Past the words nothing is stored; within them the mask 1 << b is 2 ^ b, which fits a word. Assumes
+-- nothing.
 use Prim.Native.Nat.{_%_, _^_}
 use mathlib.Core.Path.{sym}
 use native.Mathlib.Nat.{one-mul, mod-eq-of-lt}

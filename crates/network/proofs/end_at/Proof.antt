@@ -1,3 +1,4 @@
+-- `network::end_at` meets its contract. Past the end of the list the definition gives 0, as the code does. Assumes nothing.
 use mathlib.Core.Path.{sym}
 use borrow.Author.Needs.{needs}
 use lib.ListN.{List·getD-eq-default}

@@ -1,3 +1,5 @@
+-- `network::judge_each` meets its contract. The loop's invariant: the set remembers the lines before p, and what is left to judge from p on
+-- is the answer. The measure is the number of lines left. Assumes nothing.
 use Prim.Native.Nat.{_-_, _/_, _≤_}
 use mathlib.Core.Path.{_≡_, refl}
 use mathlib.Core.Bool.{true, false}

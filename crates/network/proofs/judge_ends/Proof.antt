@@ -1,3 +1,4 @@
+-- `network::judge_ends` meets its contract. Each return rewrites by the tests that led to it. Assumes nothing.
 use borrow.Author.Tests.{le-leb, lt-leb, eq-eqb, ne-eqb}
 use borrow.Author.Needs.{needs}
 use Rattle.network.specs.Judging.{endsJudged}

@@ -1,3 +1,4 @@
+-- `network::judge_length` meets its contract. Each return rewrites by the tests that led to it. Assumes nothing.
 use borrow.Author.Tests.{lt-ltb, le-ltb, eq-eqb, ne-eqb}
 use Rattle.network.specs.Judging.{lengthJudged}
 use Rattle.network.proofs.judge_length.Statement.{statement}

@@ -1,3 +1,5 @@
+-- `network::judge_line` meets its contract. The set holds just the pairs before this place, so being in it is having stood earlier; with
+-- this pair put in, it holds just the pairs before the next place. Assumes nothing.
 use mathlib.Core.Path.{_≡_, sym, _∙_}
 use mathlib.Core.Bool.{true, false, true≢false}
 use native.Mathlib.Omega.{arith}
@@ -8,7 +10,8 @@ use Rattle.kinds.specs.Refusals.{listNumber}
 use Rattle.network.specs.Lines.{endOne, endTwo}
 use Rattle.network.specs.Judging.{endsJudged, stoodBefore}
 use Rattle.network.specs.Pairs.{pairNumber}
-use Rattle.network.proofs.Judging.{EndsGood, ends-good, line-ends-refused, line-stood, line-taken}
+use Rattle.network.specs.Faults.{EndsGood}
+use Rattle.network.proofs.Judging.{ends-good, line-ends-refused, line-stood, line-taken}
 use Rattle.network.proofs.Pairs.{remember-more}
 use Rattle.network.proofs.judge_line.Statement.{statement}
 use Rattle.network.proofs.judge_line.Tie as tie

@@ -1,3 +1,4 @@
+-- `network::judge_lines` meets its contract. A set of no bits remembers no line. Assumes nothing.
 use borrow.Author.Needs.{needs}
 use Rattle.network.proofs.Pairs.{remember-none}
 use Rattle.network.proofs.judge_lines.Statement.{statement}

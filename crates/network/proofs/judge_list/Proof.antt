@@ -1,3 +1,4 @@
+-- `network::judge_list` meets its contract. Each judge's refusal is the answer; a judge that passes is passed over. Assumes nothing.
 use mathlib.Core.Path.{_≡_, sym, _∙_}
 use mathlib.Core.Bool.{true, false}
 use borrow.Author.Needs.{needs}

@@ -1,3 +1,4 @@
+-- `network::judge_stations` meets its contract. Each return rewrites by the tests that led to it. Assumes nothing.
 use borrow.Author.Tests.{lt-ltb, le-ltb}
 use Rattle.network.specs.Judging.{stationsJudged}
 use Rattle.network.proofs.judge_stations.Statement.{statement}

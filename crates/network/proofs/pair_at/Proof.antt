@@ -1,3 +1,4 @@
+-- `network::pair_at` meets its contract. Stations below 1,024 keep the product small enough. Assumes nothing.
 use Prim.Native.Nat.{_-_}
 use mathlib.Core.Path.{refl}
 use native.Mathlib.Omega.{arith}

@@ -1,3 +1,4 @@
+-- `network::pair_number` meets its contract. Whichever end is lower, the definition picks the same order. Assumes nothing.
 use mathlib.Core.Path.{sym, _∙_}
 use borrow.Author.Needs.{needs}
 use Rattle.network.proofs.Pairs.{pair-lower, pair-higher}

@@ -1,0 +1,21 @@
+/* Tapuhzel: a proved pruner of radio networks, for C.
+ *
+ * A slice is a pointer and a length in elements. It is lent for the call: nothing is kept, nothing is freed, and
+ * slices of one call do not overlap. A pointer to a result is not null and points at room of its own.
+ *
+ * Every routine returns the number of its answer: 0 where it is not refused, else the number of the refusal. A refused
+ * call writes, of all that it was lent, only *place and *list:
+ *   *place  the refusal's place: a line's place, a round, an index or an offset, else 0; 0 where it is not refused
+ *   *list   which line list a refusal 2, 6, 7 or 8 of a union speaks of, 1 or 2; 3 for the records of a file; else 0
+ */
+#ifndef TAPUHZEL_H
+#define TAPUHZEL_H
+
+#include <stddef.h>
+#include <stdint.h>
+
+/* The judge of a network of n stations and a list of lines, two numbers to a line: refusals 1 and 2, then each line in
+ * list order for 6 (an end is n or more), 7 (the ends are equal) and 8 (the same two ends stood earlier). */
+uint8_t tapuhzel_judge(size_t n, const uint16_t *lines, size_t lines_len, size_t *place, uint8_t *list);
+
+#endif
