@@ -15,7 +15,7 @@ use Rattle.network.specs.Faults.{EndsGood}
 use Rattle.network.specs.Judging.{stoodBefore, stationsJudged, lengthJudged, endsJudged, lineJudged}
 
 -- Neither of two tests holds.
-neither : (x y : Bool) → (x || y) ≡ false → (x ≡ false) × (y ≡ false)
+pub neither : (x y : Bool) → (x || y) ≡ false → (x ≡ false) × (y ≡ false)
 neither true y e = absurd (true≢false e)
 neither false y e = (refl, e)
 

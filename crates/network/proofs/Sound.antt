@@ -100,14 +100,14 @@ module _ (n : ℕ) (lines : List ℕ) where
 -- ── the whole list ──
 
 module _ (list n : ℕ) (lines : List ℕ) where
-  within-taken : Within n lines → (stationsJudged n ≡ taken) × (lengthJudged list lines ≡ taken)
+  pub within-taken : Within n lines → (stationsJudged n ≡ taken) × (lengthJudged list lines ≡ taken)
   unfolding stationsJudged lengthJudged
   within-taken w = (
     simp (le-ltb n 1 (w .some), le-ltb 1024 n (w .most)),
     simp (ne-eqb (length lines % 2) 1 (λ (e : length lines % 2 ≡ 1). omega (arith, w .even)), le-ltb 16384 (length lines) (w .few)),
   )
 
-  lines-only : Within n lines → listJudged list n lines ≡ linesJudged list n lines
+  pub lines-only : Within n lines → listJudged list n lines ≡ linesJudged list n lines
   unfolding listJudged
   lines-only w = rw (within-taken w .0, within-taken w .1)
 
