@@ -8,7 +8,7 @@ use native.Mathlib.Nat.{sub-zero, add-zero, add-suc, suc-add, zero-add}
 use native.Mathlib.Numerals.{add-one}
 use native.Mathlib.Omega.{arith}
 use native.Mathlib.Decide.{ℕ-discrete, decLt}
-use Rattle.laws.specs.Fold.{pick, upTo, firstFrom, anyFrom}
+use Rattle.laws.specs.Fold.{pick, upTo, firstFrom, anyFrom, lowest}
 
 -- What is so at i, and later than i, is so from i on.
 at-or-later : (P : ℕ → Type 0) (i j : ℕ) → P i → i ≤ j → (suc i ≤ j → P j) → P j
@@ -119,6 +119,14 @@ module _ {A : Type 0} (test : A → Bool) (f : ℕ → A) (last : A) where
       go : FoundAt test f 0 k (firstFrom test f last 0 k) ⊎ FoundNone test f last 0 k (firstFrom test f last 0 k) → firstFrom test f last 0 k ≡ f p
       go (inl r) = same r (decLt (r .place) p) (decLt p (r .place))
       go (inr r) = absurd (true≢false (sym e ∙ r .none p (omega arith) (omega arith)))
+
+-- The lowest number that passes is below the bound, if the number given where none passes is.
+pub lowest-below : (test : ℕ → Bool) (n last : ℕ) → last < n → lowest test n last < n
+lowest-below test n last h = go (first-cases test (λ i. i) last 0 n)
+  where
+    go : FoundAt test (λ i. i) 0 n (lowest test n last) ⊎ FoundNone test (λ i. i) last 0 n (lowest test n last) → lowest test n last < n
+    go (inl r) = omega (arith, r .is, r .below)
+    go (inr r) = omega (arith, r .is)
 
 -- Some number below k passes: it is there to be had.
 pub any-some : (test : ℕ → Bool) (k : ℕ) → anyFrom test 0 k ≡ true → (j : ℕ) × (j < k) × (test j ≡ true)
