@@ -3,6 +3,7 @@
 use mathlib.Core.Path.{_≡_, refl, subst}
 use mathlib.Core.Bool.{Bool, true, false}
 use Prim.Native.Nat.{ℕ, zero, suc, _+_, _≤_, _<_}
+use native.Mathlib.Numerals.{add-one}
 use native.Mathlib.Omega.{arith}
 use native.Mathlib.Decide.{ℕ-discrete}
 use Rattle.laws.specs.Count.{total, bit, count}
@@ -33,6 +34,10 @@ total-same (suc n) f g h = omega (arith, h n (omega arith), total-same n f g (λ
 pub bit-most : (b : Bool) → bit b ≤ 1
 bit-most true = omega arith
 bit-most false = omega arith
+
+-- One number more.
+pub count-more : (set : ℕ → Bool) (i : ℕ) → count (i + 1) set ≡ bit (set i) + count i set
+count-more set i = rw (add-one i)
 
 -- A set has at most as many numbers as there are.
 pub count-most : (n : ℕ) (set : ℕ → Bool) → count n set ≤ n

@@ -1,13 +1,13 @@
 -- Lists filled from the front, one store a turn or one lent part a turn.
 -- Assumes nothing.
 use Prim.Native.Nat.{ℕ, zero, suc, _+_, _*_, _-_, _<_, _≤_}
-use mathlib.Core.Path.{_≡_, refl, sym, ap}
-use mathlib.Core.List.{List, [], _∷_, _++_, append-assoc}
+use mathlib.Core.Path.{_≡_, refl, sym, ap, _∙_}
+use mathlib.Core.List.{List, [], _∷_, _++_, append-assoc, append-nil}
 use native.Mathlib.Nat.{suc-mul, mul-le-mul-right, add-sub-cancel-left}
 use native.Mathlib.Omega.{arith}
 use native.Mathlib.Numerals.{add-one}
-use lib.ListN.{length, getD, set, take, drop, replicate}
-use lib.Seq.{drop-cons, set-at, take-at, drop-at, drop-drop}
+use lib.ListN.{length, getD, set, take, drop, replicate, length-replicate}
+use lib.Seq.{drop-cons, set-at, take-at, drop-at, drop-drop, drop-length}
 
 -- `front` fills the first j places of d: a store of v at j makes it one longer.
 pub store-next : {A : Type 0} (front d : List A) (j : ℕ) (v : A) → length front ≡ j → j < length d
@@ -15,12 +15,19 @@ pub store-next : {A : Type 0} (front d : List A) (j : ℕ) (v : A) → length fr
 store-next front d j v e h =
     rw (add-one j, drop-cons d j v h, set-at front (getD d j v) (drop (suc j) d) v j e) (sym (append-assoc front (v ∷ []) (drop (suc j) d)))
 
-pub replicate-more : {A : Type 0} (n : ℕ) (v : A) → replicate n v ++ (v ∷ []) ≡ replicate (n + 1) v
+replicate-more : {A : Type 0} (n : ℕ) (v : A) → replicate n v ++ (v ∷ []) ≡ replicate (n + 1) v
 replicate-more {A} n v = rw (add-one n) (go n)
   where
     go : (n : ℕ) → replicate n v ++ (v ∷ []) ≡ replicate (suc n) v
     go zero = refl
     go (suc n) = ap (λ (l : List A). v ∷ l) (go n)
+
+-- The first j places of d hold v: a store of v at j makes that one more, and after the last place all do.
+pub fill-next : {A : Type 0} (d : List A) (j : ℕ) (v : A) → j < length d → set (replicate j v ++ drop j d) j v ≡ replicate (j + 1) v ++ drop (j + 1) d
+fill-next d j v h = store-next (replicate j v) d j v (length-replicate j v) h ∙ rw (replicate-more j v)
+
+pub fill-done : {A : Type 0} (d : List A) (v : A) → replicate (length d) v ++ drop (length d) d ≡ replicate (length d) v
+fill-done d v = simp (drop-length, append-nil)
 
 -- `front` fills the first `at` places of d, and the part from `at` to at + n was lent and holds `part`.
 pub part-back : {A : Type 0} (front d part : List A) (at n : ℕ) → length front ≡ at

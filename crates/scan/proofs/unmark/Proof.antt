@@ -3,12 +3,11 @@
 use Prim.Native.Nat.{_-_, _≤_}
 use mathlib.Core.Path.{_≡_, refl, _∙_}
 use mathlib.Core.Bool.{false}
-use mathlib.Core.List.{_++_, append-nil}
+use mathlib.Core.List.{_++_}
 use native.Mathlib.Omega.{arith}
 use borrow.Author.Needs.{needs}
-use lib.ListN.{length, drop, replicate, length-set, length-replicate}
-use lib.Seq.{drop-length}
-use Rattle.laws.proofs.Lists.{store-next, replicate-more}
+use lib.ListN.{length, drop, replicate, length-set}
+use Rattle.laws.proofs.Lists.{fill-next, fill-done}
 use Rattle.scan.proofs.unmark.Statement.{statement}
 use Rattle.scan.proofs.unmark.Tie as tie
 
@@ -33,11 +32,8 @@ loop-less c = search needs
 loop-again : tie.Need-loop-again Inv-loop μ-loop
 loop-again c =
     let l = c .before in
-    let d = l .before .args .marked .now in (
-      omega arith,
-      simp length-set (omega arith),
-      rw (l .loop .inv .2, store-next (replicate (l .loop .v) false) d (l .loop .v) false (length-replicate _ _) (omega arith), replicate-more (l .loop .v) false),
-    )
+    let d = l .before .args .marked .now in
+    (omega arith, simp length-set (omega arith), rw (l .loop .inv .2) (fill-next d (l .loop .v) false (omega arith)))
 
 same-length : tie.Need-same-length Inv-loop μ-loop
 same-length c = omega arith
@@ -45,8 +41,9 @@ same-length c = omega arith
 returns : tie.Need-returns Inv-loop μ-loop
 returns c =
     let l = c .before in
-    let e : l .loop .v ≡ length (l .before .args .marked .now) = omega arith in
-    (rw e at (l .loop .inv .2)) ∙ simp (drop-length, append-nil)
+    let d = l .before .args .marked .now in
+    let e : l .loop .v ≡ length d = omega arith in
+    (rw e at (l .loop .inv .2)) ∙ fill-done d false
 
 pub unmark-spec : {M : Type 1} → statement M
 unmark-spec =

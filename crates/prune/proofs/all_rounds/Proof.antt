@@ -1,0 +1,162 @@
+-- `prune::all_rounds` meets its contract. The loop's invariant: after i rounds the ranks are the definition's, and its orders fill the
+-- first i times n places. The measure is k - i. Assumes nothing.
+use Prim.Native.Nat.{ℕ, _+_, _*_, _-_, _≤_}
+use mathlib.Core.Path.{_≡_, refl, sym, ap, ap₂, _∙_}
+use mathlib.Core.List.{[], _++_, append-nil}
+use native.Mathlib.Nat.{zero-mul, add-sub-cancel-left}
+use native.Mathlib.Omega.{arith}
+use borrow.Author.Needs.{needs}
+use lib.ListN.{length, take, drop, length-append, length-take, length-drop}
+use lib.Seq.{drop-length}
+use Rattle.laws.specs.Fold.{upTo}
+use Rattle.laws.specs.Count.{count}
+use Rattle.laws.proofs.Fold.{upTo-more}
+use Rattle.laws.proofs.Lists.{part-next, part-fits}
+use Rattle.prune.specs.Pruning.{rounds, nextRound, allRounds}
+use Rattle.prune.proofs.Rounds.{one-more}
+use Rattle.prune.proofs.all_rounds.Statement.{statement}
+use Rattle.prune.proofs.all_rounds.Tie as tie
+
+abbrev Inv-loop : tie.InvT-loop
+Inv-loop n lines starts ranks₀ orders₀ marked₀ scanned₀ k at₀ i₀ ranks orders marked scanned at i =
+    (i ≤ k)
+    × (at ≡ i * n)
+    × (length ranks ≡ length ranks₀)
+    × (length orders ≡ length orders₀)
+    × (length marked ≡ n)
+    × (length scanned ≡ n)
+    × (length (upTo (nextRound n lines starts) (rounds ranks₀ []) i .orders) ≡ at)
+    × (orders ≡ upTo (nextRound n lines starts) (rounds ranks₀ []) i .orders ++ drop at orders₀)
+    × (ranks ≡ upTo (nextRound n lines starts) (rounds ranks₀ []) i .ranks)
+
+abbrev μ-loop : tie.MeasureT-loop
+μ-loop n lines starts ranks₀ orders₀ marked₀ scanned₀ k at₀ i₀ ranks orders marked scanned at i = k - i
+
+-- within the loop, the next round's part is within the orders
+part-in : (c : tie.In-loop Inv-loop μ-loop) → c .before .loop .at + c .before .before .before .before .before .before .before .before .args .n ≤ length (c .before .loop .orders)
+part-in c =
+    let s = c .before .before .before .before .before .before .before .before in
+    omega (arith, part-fits (c .before .loop .i) (s .args .level .0) (s .args .n) (c .loop-test .taken), s .pre .2 .room, c .before .loop .inv .3)
+
+loop-holds : tie.Need-loop-holds Inv-loop μ-loop
+unfolding upTo
+loop-holds c = let p = c .before .before .before .before .before .before .pre in (search needs, sym (zero-mul _), refl, refl, p .1 .marks-room, p .1 .scans-room, refl, refl, refl)
+
+add-end : tie.Need-add-end Inv-loop μ-loop
+add-end c = omega (arith, part-in c)
+
+mul-t16 : tie.Need-mul-t16 Inv-loop μ-loop
+mul-t16 c = omega (arith, c .before .before .before .before .before .before .before .before .pre .2 .count, c .before .before .before .before .before .before .before .before .pre .2 .most)
+
+shared-slice-read-t18 : tie.Need-shared-slice-read-t18 Inv-loop μ-loop
+shared-slice-read-t18 c = omega (arith, c .before .before .before .before .before .before .before .before .before .pre .2 .count)
+
+add-t16 : tie.Need-add-t16 Inv-loop μ-loop
+add-t16 c = omega (arith, c .before .before .before .before .before .before .before .before .before .pre .2 .most)
+
+cast-t19 : tie.Need-cast-t19 Inv-loop μ-loop
+cast-t19 c = omega (arith, c .before .before .before .before .before .before .before .before .before .pre .2 .most)
+
+mul-scan-round : tie.Need-mul-scan-round Inv-loop μ-loop
+mul-scan-round c = omega (arith, part-in (c .before .before), c .before .before .before .before .before .before .before .before .before .before .pre .2 .room)
+
+sub-scan-round : tie.Need-sub-scan-round Inv-loop μ-loop
+sub-scan-round c = omega arith
+
+part-scan-round-start : tie.Need-part-scan-round-start Inv-loop μ-loop
+part-scan-round-start c = omega arith
+
+part-scan-round-end : tie.Need-part-scan-round-end Inv-loop μ-loop
+part-scan-round-end c = part-in (c .before .before)
+
+scan-round-requires : tie.Need-scan-round-requires Inv-loop μ-loop
+scan-round-requires c κs =
+    let s = c .before .before .before .before .before .before .before .before .before .before .before .before .before in
+    let p = s .pre in
+    let l = c .before .before .before .before .before .before .loop in
+    let h = part-in (c .before .before .before .before .before) in (
+      record { one-in = λ q h. p .0 .one-in q (omega (arith, l .inv .2)); two-in = λ q h. p .0 .two-in q (omega (arith, l .inv .2)); few = p .0 .few; pairs = omega (arith, p .0 .pairs, l .inv .2) },
+      record { some = p .1 .some; most = p .1 .most; marks-room = l .inv .4; scans-room = l .inv .5 },
+      p .2 .below (l .i) (omega arith),
+      simp (add-sub-cancel-left, length-take, length-drop) (omega (arith, h)),
+    )
+
+add-i : tie.Need-add-i Inv-loop μ-loop
+add-i c = search needs
+
+loop-less : tie.Need-loop-less Inv-loop μ-loop
+loop-less c = search needs
+
+loop-again : tie.Need-loop-again Inv-loop μ-loop
+loop-again c =
+    let s = c .before .before .before .before .before .before .before .before .before .before .before .before .before .before .before .before .before .before .before .before .before .before in
+    let a = s .args in
+    let l = c .before .before .before .before .before .before .before .before .before .before .before .before .before .before .before .loop in
+    let d = c .before .before .before .before .before .before .before .before .scan-round in
+    let i = l .inv in
+    let f = nextRound (a .n) (a .lines .now) (a .starts .now) in
+    let z = rounds (a .ranks .now) [] in
+    let h = part-in (c .before .before .before .before .before .before .before .before .before .before .before .before .before .before) in
+    let part : length (take (l .at + a .n - l .at) (drop (l .at) (l .orders))) ≡ a .n = simp (add-sub-cancel-left, length-take, length-drop) (omega (arith, h)) in
+    let w = one-more (a .n) (a .lines .now) (a .starts .now) (l .i) (l .at) (upTo f z (l .i)) (a .orders .now) (l .ranks) (l .orders)
+    (d .last .1 .1 .1 .1 .0) (d .last .1 .1 .1 .1 .1 .0) (i .6) (i .7) (i .8) (d .ensures .0) (d .ensures .1) (d .kept .1 .1 .1 .1 .1 .0 ∙ part) in (
+      omega (arith, c .before .before .before .before .before .before .before .before .before .before .before .before .before .before .loop-test .taken),
+      omega (arith, part-next (l .i) (a .n), i .1),
+      d .kept .1 .1 .1 .1 .0 ∙ i .2,
+      simp (length-append, length-take, length-drop) (omega (arith, i .3, h, d .kept .1 .1 .1 .1 .1 .0 ∙ part)),
+      d .kept .1 .1 .1 .1 .1 .1 .0 ∙ i .4,
+      d .kept .1 .1 .1 .1 .1 .1 .1 .0 ∙ i .5,
+      rw (upTo-more f z (l .i)) (w .longer),
+      rw (upTo-more f z (l .i)) (w .filled),
+      rw (upTo-more f z (l .i)) (w .ranked),
+    )
+
+same-length : tie.Need-same-length Inv-loop μ-loop
+same-length c = omega (arith, c .before .loop .inv .2)
+
+same-length-2 : tie.Need-same-length-2 Inv-loop μ-loop
+same-length-2 c = omega (arith, c .before .loop .inv .3)
+
+same-length-3 : tie.Need-same-length-3 Inv-loop μ-loop
+same-length-3 c = omega (arith, c .before .loop .inv .4, c .before .before .before .before .before .before .before .before .pre .1 .marks-room)
+
+same-length-4 : tie.Need-same-length-4 Inv-loop μ-loop
+same-length-4 c = omega (arith, c .before .loop .inv .5, c .before .before .before .before .before .before .before .before .pre .1 .scans-room)
+
+returns : tie.Need-returns Inv-loop μ-loop
+unfolding allRounds
+returns c =
+    let s = c .before .before .before .before .before .before .before .before in
+    let a = s .args in
+    let l = c .before .loop in
+    let e : l .i ≡ a .level .0 = omega arith in
+    let g : l .at ≡ length (a .orders .now) = omega (arith, s .pre .2 .room, ap (λ (x : ℕ). x * a .n) e) in
+    let o = simp (drop-length, append-nil) at (rw g at (l .inv .7)) in
+    let w : rounds (l .ranks) (l .orders) ≡ upTo (nextRound (a .n) (a .lines .now) (a .starts .now)) (rounds (a .ranks .now) []) (l .i) = ap₂ rounds (l .inv .8) o in
+    rw e at w
+
+pub all-rounds-spec : {M : Type 1} → statement M
+all-rounds-spec =
+    tie.close
+    (tie.spec
+    Inv-loop
+    μ-loop
+    loop-holds
+    add-end
+    mul-t16
+    shared-slice-read-t18
+    add-t16
+    cast-t19
+    mul-scan-round
+    sub-scan-round
+    part-scan-round-start
+    part-scan-round-end
+    scan-round-requires
+    add-i
+    loop-less
+    loop-again
+    same-length
+    same-length-2
+    same-length-3
+    same-length-4
+    returns)

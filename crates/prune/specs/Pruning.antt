@@ -1,0 +1,51 @@
+-- Pruning: k rounds of the scan rule, what is kept, and what is left in the lent buffers.
+-- Assumes nothing.
+use Prim.Native.Nat.{ℕ, _+_, _*_, _/_}
+use mathlib.Core.Bool.{Bool, not, _||_}
+use mathlib.Core.List.{List, [], _++_}
+use lib.ListN.{length, getD, drop, replicate}
+use lib.Dec.{ltb, eqb}
+use Rattle.laws.specs.Fold.{pick, upTo}
+use Rattle.laws.specs.Count.{count}
+use Rattle.kinds.specs.Answers.{Answer, Answer.given, _andThen_, isRefused}
+use Rattle.request.specs.Judging.{requestJudged}
+use Rattle.scan.specs.Rule.{oneRound}
+
+-- What the rounds make: the lines' ranks, and the rounds' orders, n places to a round.
+pub record Rounds : Type 0 where
+  pub ranks : List ℕ
+  pub orders : List ℕ
+
+abbrev pub rounds : List ℕ → List ℕ → Rounds
+rounds ranks orders = record { ranks = ranks; orders = orders }
+
+-- The round after i others, which is round i + 1: its order fills the n places that begin at i times n.
+unfoldable pub nextRound : ℕ → List ℕ → List ℕ → ℕ → Rounds → Rounds
+nextRound n lines starts i s =
+    let round = oneRound n lines (i + 1) (getD starts i 0) (s .ranks) in
+    rounds (round .ranks) (s .orders ++ round .order)
+
+-- The first k rounds, from ranks.
+unfoldable pub allRounds : ℕ → ℕ → List ℕ → List ℕ → List ℕ → Rounds
+allRounds n k lines starts ranks = upTo (nextRound n lines starts) (rounds ranks []) k
+
+-- The ranks and the orders of a network pruned at level k: every line is in play at first.
+unfoldable pub pruned : ℕ → ℕ → List ℕ → List ℕ → Rounds
+pruned n k lines starts = allRounds n k lines starts (replicate (length lines / 2) 0)
+
+-- The count of kept lines: the number of nonzero ranks.
+unfoldable pub keptCount : List ℕ → ℕ
+keptCount ranks = count (length ranks) (λ p. not (eqb (getD ranks p 0) 0))
+
+-- Whether a lent buffer is shorter than needed: m bytes for the ranks, k times n numbers for the orders.
+unfoldable pub pruneShort : ℕ → ℕ → List ℕ → (ranks orders : ℕ) → Bool
+pruneShort n k lines ranks orders = ltb ranks (length lines / 2) || ltb orders (k * n)
+
+-- What pruning answers, given the lengths of the two buffers: the first refusal, or the count of kept lines.
+unfoldable pub pruneAnswer : ℕ → ℕ → List ℕ → List ℕ → (ranks orders : ℕ) → Answer ℕ
+pruneAnswer n k lines starts ranks orders =
+    requestJudged n k lines starts (pruneShort n k lines ranks orders) andThen given (keptCount (pruned n k lines starts .ranks))
+
+-- A buffer after a call: as it was where the call is refused, else written from the front, later places untouched.
+unfoldable pub after : {A : Type 0} → Answer A → List ℕ → List ℕ → List ℕ
+after answer new old = pick (isRefused answer) old (new ++ drop (length new) old)

@@ -1,0 +1,170 @@
+// Pruning: k rounds of the scan rule, over the caller's lent buffers.
+use kinds::Judged;
+use kinds::Level;
+use kinds::Refusal;
+use kinds::Round;
+use kinds::Station;
+use request::judge_request;
+use scan::scan_round;
+ghost use mathlib.Core.Path.{_≡_};
+ghost use Prim.Native.Nat.{ℕ, _*_, _/_, _≤_, _<_};
+ghost use lib.ListN.{length, getD, replicate};
+ghost use Rattle.scan.specs.Rule.{Laid, Room};
+ghost use Rattle.prune.specs.Answers.{prunedAnswer};
+ghost use Rattle.prune.specs.Pruning.{rounds, allRounds, pruned, keptCount, pruneShort, pruneAnswer, after};
+ghost use Rattle.prune.specs.Sizes.{InOrder};
+
+// What pruning says: how many lines are kept, or why the input is refused.
+pub enum Pruned {
+    Kept(usize),
+    Refused(Refusal),
+}
+
+// Every line is in play.
+fn clear(ranks: &mut [u8])
+    ensures cleared { λ _. ⌜ now (ranks .exit) ≡ replicate (length (now (ranks .entry))) 0 ⌝ }
+{
+    let count = ranks.len();
+    for p in 0..count {
+        ranks[p] = 0;
+    }
+}
+
+// The number of nonzero ranks.
+fn count_kept(ranks: &[u8]) -> usize
+    ensures count { λ r. ⌜ r ≡ keptCount (now (ranks .entry)) ⌝ }
+{
+    let count = ranks.len();
+    let mut kept = 0;
+    for p in 0..count {
+        if ranks[p] != 0 {
+            kept += 1;
+        }
+    }
+    kept
+}
+
+// The rounds 1 to k. Round i is lent its part of the orders, the n places that begin at (i - 1) times n.
+fn all_rounds(
+    level: Level,
+    n: usize,
+    lines: &[u16],
+    starts: &[u16],
+    ranks: &mut [u8],
+    orders: &mut [u16],
+    marked: &mut [bool],
+    scanned: &mut [bool],
+)
+    requires { ⌜ Laid n (now lines) (now ranks) × Room n (now marked) (now scanned) × InOrder n (level .0) (now starts) (now orders) ⌝ }
+    ensures rounds { λ _. ⌜ rounds (now (ranks .exit)) (now (orders .exit)) ≡ allRounds n (level .0) (now (lines .entry)) (now (starts .entry)) (now (ranks .entry)) ⌝ }
+{
+    let k = level.0;
+    let mut at = 0;
+    for i in 0..k {
+        let end = at + n;
+        let start = Station(starts[i]);
+        let round = Round((i + 1) as u8);
+        scan_round(
+            round,
+            start,
+            n,
+            lines,
+            ranks,
+            &mut orders[at..end],
+            marked,
+            scanned,
+        );
+        at = end;
+    }
+}
+
+// Whether a lent buffer is shorter than needed. Dividing instead of multiplying keeps any level and n from wrapping.
+fn is_short(n: usize, level: Level, lines: &[u16], ranks: usize, orders: usize) -> bool
+    ensures short { λ r. ⌜ r ≡ pruneShort n (level .0) (now (lines .entry)) ranks orders ⌝ }
+{
+    if ranks < lines.len() / 2 {
+        return true;
+    }
+    if n == 0 {
+        return false;
+    }
+    orders / n < level.0
+}
+
+// Every line is put in play, the rounds take theirs, and what they took is counted.
+fn run_rounds(
+    level: Level,
+    n: usize,
+    lines: &[u16],
+    starts: &[u16],
+    ranks: &mut [u8],
+    orders: &mut [u16],
+    marked: &mut [bool],
+    scanned: &mut [bool],
+) -> usize
+    requires { ⌜ Laid n (now lines) (now ranks) × Room n (now marked) (now scanned) × InOrder n (level .0) (now starts) (now orders) ⌝ }
+    ensures rounds { λ _. ⌜ rounds (now (ranks .exit)) (now (orders .exit)) ≡ pruned n (level .0) (now (lines .entry)) (now (starts .entry)) ⌝ }
+    ensures count { λ r. ⌜ r ≡ keptCount (pruned n (level .0) (now (lines .entry)) (now (starts .entry)) .ranks) ⌝ }
+{
+    clear(ranks);
+    all_rounds(level, n, lines, starts, ranks, orders, marked, scanned);
+    count_kept(ranks)
+}
+
+// Prunes what was judged to be in order, into buffers of just the right size, with two sets of stations to work in.
+fn run(
+    level: Level,
+    n: usize,
+    lines: &[u16],
+    starts: &[u16],
+    ranks: &mut [u8],
+    orders: &mut [u16],
+) -> usize
+    requires { ⌜ Laid n (now lines) (now ranks) × (0 < n) × (n ≤ 1024) × InOrder n (level .0) (now starts) (now orders) ⌝ }
+    ensures rounds { λ _. ⌜ rounds (now (ranks .exit)) (now (orders .exit)) ≡ pruned n (level .0) (now (lines .entry)) (now (starts .entry)) ⌝ }
+    ensures count { λ r. ⌜ r ≡ keptCount (pruned n (level .0) (now (lines .entry)) (now (starts .entry)) .ranks) ⌝ }
+{
+    let mut marked = [false; 1024];
+    let mut scanned = [false; 1024];
+    run_rounds(
+        level,
+        n,
+        lines,
+        starts,
+        ranks,
+        orders,
+        &mut marked[..n],
+        &mut scanned[..n],
+    )
+}
+
+// Prunes a network of n stations at a level, from a starting station for each round: each line's rank, each round's order.
+pub fn prune(
+    n: usize,
+    level: Level,
+    lines: &[u16],
+    starts: &[u16],
+    ranks: &mut [u8],
+    orders: &mut [u16],
+) -> Pruned
+    ensures answer { λ r. ⌜ prunedAnswer r ≡ pruneAnswer n (level .0) (now (lines .entry)) (now (starts .entry)) (length (now (ranks .entry))) (length (now (orders .entry))) ⌝ }
+    ensures ranks { λ r. ⌜ now (ranks .exit) ≡ after (prunedAnswer r) (pruned n (level .0) (now (lines .entry)) (now (starts .entry)) .ranks) (now (ranks .entry)) ⌝ }
+    ensures orders { λ r. ⌜ now (orders .exit) ≡ after (prunedAnswer r) (pruned n (level .0) (now (lines .entry)) (now (starts .entry)) .orders) (now (orders .entry)) ⌝ }
+{
+    let short = is_short(n, level, lines, ranks.len(), orders.len());
+    let judged = judge_request(n, level, lines, starts, short);
+    if let Judged::Refused(refusal) = judged {
+        return Pruned::Refused(refusal);
+    }
+    let count = lines.len() / 2;
+    let size = level.0 * n;
+    let kept = run(
+        level,
+        n,
+        lines,
+        starts,
+        &mut ranks[..count],
+        &mut orders[..size],
+    );
+    Pruned::Kept(kept)
+}
