@@ -1,13 +1,13 @@
 -- Pruning: k rounds of the scan rule, what is kept, and what is left in the lent buffers.
 -- Assumes nothing.
 use Prim.Native.Nat.{ℕ, _+_, _*_, _/_}
-use mathlib.Core.Bool.{Bool, not, _||_}
+use mathlib.Core.Bool.{Bool, _||_}
 use mathlib.Core.List.{List, [], _++_}
-use lib.ListN.{length, getD, drop, replicate}
-use lib.Dec.{ltb, eqb}
-use Rattle.laws.specs.Fold.{pick, upTo}
-use Rattle.laws.specs.Count.{count}
-use Rattle.kinds.specs.Answers.{Answer, Answer.given, _andThen_, isRefused}
+use lib.ListN.{length, getD, replicate}
+use lib.Dec.{ltb}
+use Rattle.laws.specs.Fold.{upTo}
+use Rattle.kinds.specs.Answers.{Answer, Answer.given, _andThen_}
+use Rattle.kept.specs.Kept.{keptCount}
 use Rattle.request.specs.Judging.{requestJudged}
 use Rattle.scan.specs.Rule.{oneRound}
 
@@ -33,10 +33,6 @@ allRounds n k lines starts ranks = upTo (nextRound n lines starts) (rounds ranks
 unfoldable pub pruned : ℕ → ℕ → List ℕ → List ℕ → Rounds
 pruned n k lines starts = allRounds n k lines starts (replicate (length lines / 2) 0)
 
--- The count of kept lines: the number of nonzero ranks.
-unfoldable pub keptCount : List ℕ → ℕ
-keptCount ranks = count (length ranks) (λ p. not (eqb (getD ranks p 0) 0))
-
 -- Whether a lent buffer is shorter than needed: m bytes for the ranks, k times n numbers for the orders.
 unfoldable pub pruneShort : ℕ → ℕ → List ℕ → (ranks orders : ℕ) → Bool
 pruneShort n k lines ranks orders = ltb ranks (length lines / 2) || ltb orders (k * n)
@@ -45,7 +41,3 @@ pruneShort n k lines ranks orders = ltb ranks (length lines / 2) || ltb orders (
 unfoldable pub pruneAnswer : ℕ → ℕ → List ℕ → List ℕ → (ranks orders : ℕ) → Answer ℕ
 pruneAnswer n k lines starts ranks orders =
     requestJudged n k lines starts (pruneShort n k lines ranks orders) andThen given (keptCount (pruned n k lines starts .ranks))
-
--- A buffer after a call: as it was where the call is refused, else written from the front, later places untouched.
-unfoldable pub after : {A : Type 0} → Answer A → List ℕ → List ℕ → List ℕ
-after answer new old = pick (isRefused answer) old (new ++ drop (length new) old)

@@ -1,4 +1,5 @@
 // Pruning: k rounds of the scan rule, over the caller's lent buffers.
+use kept::count_kept;
 use kinds::Judged;
 use kinds::Level;
 use kinds::Refusal;
@@ -9,9 +10,10 @@ use scan::scan_round;
 ghost use mathlib.Core.Path.{_≡_};
 ghost use Prim.Native.Nat.{ℕ, _*_, _/_, _≤_, _<_};
 ghost use lib.ListN.{length, getD, replicate};
+ghost use Rattle.kept.specs.Kept.{keptCount, after};
 ghost use Rattle.scan.specs.Rule.{Laid, Room};
 ghost use Rattle.prune.specs.Answers.{prunedAnswer};
-ghost use Rattle.prune.specs.Pruning.{rounds, allRounds, pruned, keptCount, pruneShort, pruneAnswer, after};
+ghost use Rattle.prune.specs.Pruning.{rounds, allRounds, pruned, pruneShort, pruneAnswer};
 ghost use Rattle.prune.specs.Sizes.{InOrder};
 
 // What pruning says: how many lines are kept, or why the input is refused.
@@ -28,20 +30,6 @@ fn clear(ranks: &mut [u8])
     for p in 0..count {
         ranks[p] = 0;
     }
-}
-
-// The number of nonzero ranks.
-fn count_kept(ranks: &[u8]) -> usize
-    ensures count { λ r. ⌜ r ≡ keptCount (now (ranks .entry)) ⌝ }
-{
-    let count = ranks.len();
-    let mut kept = 0;
-    for p in 0..count {
-        if ranks[p] != 0 {
-            kept += 1;
-        }
-    }
-    kept
 }
 
 // The rounds 1 to k. Round i is lent its part of the orders, the n places that begin at (i - 1) times n.

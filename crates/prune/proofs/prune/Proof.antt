@@ -13,8 +13,10 @@ use Rattle.kinds.specs.Answers.{Answer.given, taken, refusalAnswer}
 use Rattle.request.specs.Judging.{requestJudged}
 use Rattle.request.specs.Requests.{Request}
 use Rattle.request.proofs.Judging.{request-good}
-use Rattle.prune.specs.Pruning.{Rounds, pruneShort, pruneAnswer, after}
-use Rattle.prune.proofs.Room.{room-enough, written}
+use Rattle.kept.specs.Kept.{after}
+use Rattle.prune.specs.Pruning.{Rounds, pruneShort, pruneAnswer}
+use Rattle.kept.proofs.After.{written}
+use Rattle.prune.proofs.Room.{room-enough}
 use Rattle.prune.proofs.prune.Statement.{statement}
 use Rattle.prune.proofs.prune.Tie as tie
 

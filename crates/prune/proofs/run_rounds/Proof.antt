@@ -6,7 +6,8 @@ use mathlib.Core.List.{List}
 use native.Mathlib.Omega.{arith}
 use borrow.Author.Needs.{needs}
 use lib.ListN.{length, replicate}
-use Rattle.prune.specs.Pruning.{Rounds, allRounds, pruned, keptCount}
+use Rattle.kept.specs.Kept.{keptCount}
+use Rattle.prune.specs.Pruning.{Rounds, allRounds, pruned}
 use Rattle.prune.proofs.run_rounds.Statement.{statement}
 use Rattle.prune.proofs.run_rounds.Tie as tie
 

@@ -1,4 +1,4 @@
--- `prune::count_kept` meets its contract. The loop's invariant: `kept` counts the nonzero ranks below p. The measure is the number of ranks
+-- `kept::count_kept` meets its contract. The loop's invariant: `kept` counts the nonzero ranks below p. The measure is the number of ranks
 -- left. Assumes nothing.
 use Prim.Native.Nat.{ℕ, _-_, _≤_}
 use mathlib.Core.Path.{_≡_, refl, sym, _∙_}
@@ -11,9 +11,9 @@ use lib.Dec.{eqb}
 use lib.ListN.{length, getD}
 use Rattle.laws.specs.Count.{count}
 use Rattle.laws.proofs.Count.{count-more}
-use Rattle.prune.specs.Pruning.{keptCount}
-use Rattle.prune.proofs.count_kept.Statement.{statement}
-use Rattle.prune.proofs.count_kept.Tie as tie
+use Rattle.kept.specs.Kept.{keptCount}
+use Rattle.kept.proofs.count_kept.Statement.{statement}
+use Rattle.kept.proofs.count_kept.Tie as tie
 
 abbrev Inv-loop : tie.InvT-loop
 Inv-loop ranks count kept₀ p₀ kept p = (p ≤ count) × (kept ≤ p) × (kept ≡ Rattle.laws.specs.Count.count p (λ q. not (eqb (getD ranks q 0) 0)))
