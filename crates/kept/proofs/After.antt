@@ -4,7 +4,7 @@ use Prim.Native.Nat.{ℕ}
 use mathlib.Core.Path.{_≡_}
 use mathlib.Core.List.{List, _++_}
 use lib.ListN.{length, drop}
-use Rattle.kinds.specs.Answers.{Answer, Answer.given}
+use Rattle.kinds.specs.Answers.{Answer.given}
 use Rattle.kept.specs.Kept.{after}
 
 -- The front of `old`, of the length of `new`, was lent on and holds `new`.

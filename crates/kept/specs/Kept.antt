@@ -3,7 +3,7 @@
 use Prim.Native.Nat.{ℕ, _*_, _/_}
 use mathlib.Core.Bool.{Bool, not, _||_}
 use mathlib.Core.List.{List, [], _∷_, _++_}
-use lib.ListN.{length, getD, take, drop}
+use lib.ListN.{length, getD, drop}
 use lib.Dec.{ltb, eqb}
 use Rattle.laws.specs.Fold.{pick, upTo}
 use Rattle.laws.specs.Count.{count}
@@ -30,7 +30,7 @@ keptLines lines ranks = upTo (copyLine lines ranks) [] (length lines / 2)
 
 -- How many of a list's lines are kept.
 unfoldable pub keptOf : List ℕ → List ℕ → ℕ
-keptOf lines ranks = keptCount (take (length lines / 2) ranks)
+keptOf lines ranks = count (length lines / 2) (isKept ranks)
 
 -- What copying answers, given the room for numbers: 2; then 5, ranks shorter than m or room for fewer than twice the kept lines; else how many.
 unfoldable pub copyAnswer : List ℕ → List ℕ → ℕ → Answer ℕ

@@ -1,2 +1,3 @@
 pub mod Kept
 pub mod Answers
+pub mod Filled

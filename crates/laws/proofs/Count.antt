@@ -39,6 +39,15 @@ bit-most false = omega arith
 pub count-more : (set : ℕ → Bool) (i : ℕ) → count (i + 1) set ≡ bit (set i) + count i set
 count-more set i = rw (add-one i)
 
+-- A longer stretch holds no fewer.
+pub count-rise : (set : ℕ → Bool) (i j : ℕ) → i ≤ j → count i set ≤ count j set
+count-rise set i zero h = let e : i ≡ 0 = omega arith in rw e (omega arith)
+count-rise set i (suc j) h = go (ℕ-discrete i (suc j)) (λ l. count-rise set i j l)
+  where
+    go : Dec (i ≡ suc j) → (i ≤ j → count i set ≤ count j set) → count i set ≤ count (suc j) set
+    go (yes e) ih = rw e (omega arith)
+    go (no n) ih = omega (arith, ih (omega arith))
+
 -- A set has at most as many numbers as there are.
 pub count-most : (n : ℕ) (set : ℕ → Bool) → count n set ≤ n
 count-most zero set = omega arith

@@ -1,0 +1,41 @@
+-- The laws of copying: how many numbers are copied, and what two stores make of a buffer filled from the front.
+-- Assumes nothing.
+use Prim.Native.Nat.{ℕ, zero, suc, _+_, _*_, _/_, _≤_}
+use mathlib.Core.Path.{_≡_, refl}
+use mathlib.Core.Bool.{Bool, true, false}
+use mathlib.Core.List.{List, [], _∷_, _++_, append-assoc}
+use native.Mathlib.Omega.{arith}
+use lib.ListN.{length, set, take, drop, length-append}
+use lib.Seq.{length-take-le, getD-take}
+use Rattle.laws.specs.Fold.{pick, upTo}
+use Rattle.laws.specs.Count.{bit, count}
+use Rattle.laws.proofs.Count.{total-same}
+use Rattle.laws.proofs.Lists.{store-next}
+use Rattle.network.specs.Lines.{endOne, endTwo}
+use Rattle.kept.specs.Kept.{isKept, keptCount, copyLine, keptOf}
+
+-- Two numbers for each kept line.
+pub copy-size : (lines ranks : List ℕ) (p : ℕ) → length (upTo (copyLine lines ranks) [] p) ≡ 2 * count p (isKept ranks)
+unfolding upTo copyLine
+copy-size lines ranks zero = refl
+copy-size lines ranks (suc p) = go (isKept ranks p) (upTo (copyLine lines ranks) [] p) (copy-size lines ranks p)
+  where
+    go : (b : Bool) (copied : List ℕ) → length copied ≡ 2 * count p (isKept ranks)
+        → length (pick b (copied ++ (endOne lines p ∷ (endTwo lines p ∷ []))) copied) ≡ 2 * (bit b + count p (isKept ranks))
+    go true copied e = simp length-append (omega arith)
+    go false copied e = omega arith
+
+-- Counting the first m ranks counts the kept lines.
+pub kept-of : (lines ranks : List ℕ) → length lines / 2 ≤ length ranks → keptCount (take (length lines / 2) ranks) ≡ keptOf lines ranks
+unfolding keptCount keptOf
+kept-of lines ranks h =
+    rw (length-take-le (length lines / 2) ranks h)
+    (total-same (length lines / 2) _ _ (λ p l. rw (getD-take (length lines / 2) ranks p 0 l)))
+
+-- A kept line's two ends, stored after what was copied.
+pub store-two : (front before : List ℕ) (at a b : ℕ) → length front ≡ at → at + 2 ≤ length before
+    → set (set (front ++ drop at before) at a) (at + 1) b ≡ (front ++ (a ∷ (b ∷ []))) ++ drop (at + 2) before
+store-two front before at a b e h =
+    let two : at + 1 + 1 ≡ at + 2 = omega arith in
+    let one : length (front ++ (a ∷ [])) ≡ at + 1 = simp length-append (omega arith) in
+    rw (store-next front before at a e (omega arith), store-next (front ++ (a ∷ [])) before (at + 1) b one (omega arith), two, append-assoc front (a ∷ []) (b ∷ []))
