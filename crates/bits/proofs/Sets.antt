@@ -12,8 +12,9 @@ use borrow.Author.Tests.{eq-eqb, ne-eqb}
 use lib.Dec.{eqb}
 use lib.Pow.{pow-pos, pow-lt, pow-add, shl-shr}
 use lib.Bits.{bitOr, or-shr, or-mod, or-zero-r}
-use lib.ListN.{length, getD, set, replicate, length-set, getD-replicate, List·getD-eq-default, length-replicate}
+use lib.ListN.{length, getD, set, replicate, length-set}
 use lib.Seq.{getD-set-same, getD-set-other}
+use Rattle.laws.proofs.Lists.{replicate-at}
 use Rattle.bits.specs.Sets.{isIn, putIn}
 
 -- Bit j of a word with only bit b.
@@ -69,8 +70,4 @@ length-put words x = simp length-set
 -- Nothing is in words of 0.
 pub in-none : (n x : ℕ) → isIn (replicate n 0) x ≡ false
 unfolding isIn
-in-none n x = rw (zeros (decLt (x / 64) n), zero-div (2 ^ (x % 64)))
-  where
-    zeros : Dec (x / 64 < n) → _≡_ {A = ℕ} (getD (replicate n 0) (x / 64) 0) 0
-    zeros (yes h) = getD-replicate n (x / 64) 0 0 h
-    zeros (no h) = List·getD-eq-default (replicate n 0) 0 (simp length-replicate (omega arith))
+in-none n x = rw (replicate-at {A = ℕ} n (x / 64) 0, zero-div (2 ^ (x % 64)))

@@ -1,6 +1,7 @@
 -- The laws of sums and counts.
 -- Assumes nothing.
-use mathlib.Core.Path.{_≡_, refl, subst}
+use mathlib.Core.Path.{_≡_, refl, sym, subst}
+use mathlib.Core.Logic.{_≢_}
 use mathlib.Core.Bool.{Bool, true, false}
 use Prim.Native.Nat.{ℕ, zero, suc, _+_, _≤_, _<_}
 use native.Mathlib.Numerals.{add-one}
@@ -52,3 +53,34 @@ count-rise set i (suc j) h = go (ℕ-discrete i (suc j)) (λ l. count-rise set i
 pub count-most : (n : ℕ) (set : ℕ → Bool) → count n set ≤ n
 count-most zero set = omega arith
 count-most (suc n) set = omega (arith, bit-most (set n), count-most n set)
+
+-- None of the numbers is in the set; all are; all must be, if they are counted so.
+pub count-none : (n : ℕ) (set : ℕ → Bool) → ((v : ℕ) → v < n → set v ≡ false) → count n set ≡ 0
+count-none zero set h = refl
+count-none (suc n) set h = rw (h n (omega arith)) (omega (arith, count-none n set (λ v l. h v (omega arith))))
+
+pub count-all : (n : ℕ) (set : ℕ → Bool) → ((v : ℕ) → v < n → set v ≡ true) → count n set ≡ n
+count-all zero set h = refl
+count-all (suc n) set h = rw (h n (omega arith)) (omega (arith, count-all n set (λ v l. h v (omega arith))))
+
+pub count-full : (n : ℕ) (set : ℕ → Bool) → count n set ≡ n → (v : ℕ) → v < n → set v ≡ true
+count-full zero set e v h = absurd (omega arith)
+count-full (suc n) set e v h = go (ℕ-discrete v n) (set n) refl (λ f k. count-full n set f v k)
+  where
+    go : Dec (v ≡ n) → (b : Bool) → set n ≡ b → (count n set ≡ n → v < n → set v ≡ true) → set v ≡ true
+    go (yes f) true g ih = rw f g
+    go (no f) true g ih = ih (omega (arith, rw g at e)) (omega arith)
+    go d false g ih = absurd (omega (arith, rw g at e, count-most n set))
+
+-- One number more is in the second set than in the first.
+pub count-one-more : (n : ℕ) (f g : ℕ → Bool) (u : ℕ) → u < n → f u ≡ false → g u ≡ true → ((v : ℕ) → v ≢ u → g v ≡ f v) → count n g ≡ count n f + 1
+count-one-more zero f g u l a b h = absurd (omega arith)
+count-one-more (suc n) f g u l a b h = go (ℕ-discrete u n) (λ k. count-one-more n f g u k a b h)
+  where
+    go : Dec (u ≡ n) → (u < n → count n g ≡ count n f + 1) → count (suc n) g ≡ count (suc n) f + 1
+    go (yes e) ih =
+        let same : count n g ≡ count n f = total-same n _ _ (λ v k. rw (h v (λ (x : v ≡ u). omega arith))) in
+        let gone : f n ≡ false = rw e at a in
+        let there : g n ≡ true = rw e at b in
+        rw (gone, there) (omega arith)
+    go (no m) ih = rw (h n (λ (x : n ≡ u). m (sym x))) (omega (arith, ih (omega arith)))

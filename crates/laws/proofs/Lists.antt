@@ -4,10 +4,19 @@ use Prim.Native.Nat.{ℕ, zero, suc, _+_, _*_, _-_, _<_, _≤_}
 use mathlib.Core.Path.{_≡_, refl, sym, ap, _∙_}
 use mathlib.Core.List.{List, [], _∷_, _++_, append-assoc, append-nil}
 use native.Mathlib.Nat.{suc-mul, mul-le-mul-right, add-sub-cancel-left}
+use native.Mathlib.Decide.{decLt}
 use native.Mathlib.Omega.{arith}
 use native.Mathlib.Numerals.{add-one}
-use lib.ListN.{length, getD, set, take, drop, replicate, length-replicate}
+use lib.ListN.{length, getD, set, take, drop, replicate, length-replicate, getD-replicate, List·getD-eq-default}
 use lib.Seq.{drop-cons, set-at, take-at, drop-at, drop-drop, drop-length}
+
+-- A list of one value, read with that value past its end.
+pub replicate-at : {A : Type 0} (n i : ℕ) (v : A) → getD (replicate n v) i v ≡ v
+replicate-at n i v = go (decLt i n)
+  where
+    go : Dec (i < n) → getD (replicate n v) i v ≡ v
+    go (yes h) = getD-replicate n i v v h
+    go (no h) = List·getD-eq-default (replicate n v) v {n = i} (simp length-replicate (omega arith))
 
 -- `front` fills the first j places of d: a store of v at j makes it one longer.
 pub store-next : {A : Type 0} (front d : List A) (j : ℕ) (v : A) → length front ≡ j → j < length d

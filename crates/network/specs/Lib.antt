@@ -1,4 +1,5 @@
 pub mod Lines
 pub mod Judging
+pub mod Orders
 pub mod Faults
 pub mod Pairs

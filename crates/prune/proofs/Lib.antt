@@ -1,2 +1,3 @@
 pub mod Rounds
 pub mod Room
+pub mod Plans

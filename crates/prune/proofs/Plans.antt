@@ -1,0 +1,73 @@
+-- What pruning makes: ranks of at most k, and for each round an order that has each station once.
+-- Assumes nothing.
+use Prim.Native.Nat.{ℕ, zero, suc, _+_, _*_, _/_, _<_, _≤_}
+use mathlib.Core.Path.{_≡_, sym}
+use mathlib.Core.List.{List, [], _++_}
+use native.Mathlib.Nat.{zero-mul}
+use native.Mathlib.Decide.{ℕ-discrete}
+use native.Mathlib.Numerals.{add-one}
+use native.Mathlib.Omega.{arith}
+use lib.ListN.{length, getD, take, drop, replicate, length-append, length-drop}
+use lib.Seq.{drop-at, take-all, take-append-le, drop-append-le}
+use Rattle.laws.specs.Fold.{upTo}
+use Rattle.laws.proofs.Lists.{part-next, part-fits, replicate-at}
+use Rattle.network.specs.Orders.{EachOnce}
+use Rattle.scan.specs.Rule.{oneRound}
+use Rattle.scan.proofs.Order.{round-each-once, round-ranked}
+use Rattle.prune.specs.Pruning.{Rounds, rounds, nextRound, allRounds, pruned}
+
+module _ (n : ℕ) (lines starts : List ℕ) (ranks : List ℕ) where
+  -- after k rounds
+  abbrev Done : ℕ → Rounds
+  Done k = upTo (nextRound n lines starts) (rounds ranks []) k
+
+  ranked : ((p : ℕ) → getD ranks p 0 ≤ 0) → (k : ℕ) → (p : ℕ) → getD (Done k .ranks) p 0 ≤ k
+  unfolding upTo nextRound
+  ranked none zero p = none p
+  ranked none (suc k) p =
+      let below = ranked none k in
+      let r = round-ranked n lines (k + 1) (getD starts k 0) (Done k .ranks) (λ q. omega (arith, below q)) p in
+      omega (arith, r)
+
+  filled : (k : ℕ) → length (Done k .orders) ≡ k * n
+  unfolding upTo nextRound
+  filled zero = sym (zero-mul n)
+  filled (suc k) =
+      simp length-append (omega (arith, filled k, round-each-once n lines (k + 1) (getD starts k 0) (Done k .ranks) .size, part-next k n, add-one-mul k n))
+    where
+      add-one-mul : (k n : ℕ) → (k + 1) * n ≡ suc k * n
+      add-one-mul k n = rw (add-one k)
+
+  -- the part of round i + 1
+  part : (k i : ℕ) → i < k → EachOnce n (take n (drop (i * n) (Done k .orders)))
+  unfolding upTo nextRound
+  part zero i h = absurd (omega arith)
+  part (suc k) i h = go (ℕ-discrete i k) (λ l. part k i l)
+    where
+      good : EachOnce n (oneRound n lines (k + 1) (getD starts k 0) (Done k .ranks) .order)
+      good = round-each-once n lines (k + 1) (getD starts k 0) (Done k .ranks)
+
+      go : Dec (i ≡ k) → (i < k → EachOnce n (take n (drop (i * n) (Done k .orders)))) → EachOnce n (take n (drop (i * n) (Done k .orders ++ oneRound n lines (k + 1) (getD starts k 0) (Done k .ranks) .order)))
+      go (yes e) ih = rw (e, drop-at (Done k .orders) (oneRound n lines (k + 1) (getD starts k 0) (Done k .ranks) .order) (k * n) (filled k), take-all n (oneRound n lines (k + 1) (getD starts k 0) (Done k .ranks) .order) (omega (arith, good .size))) good
+      go (no m) ih =
+          let fits = part-fits i k n (omega arith) in
+          rw (
+            drop-append-le (i * n) (Done k .orders) _ (omega (arith, filled k, fits)),
+            take-append-le n (drop (i * n) (Done k .orders)) _ (simp length-drop (omega (arith, filled k, fits))),
+          )
+          (ih (omega arith))
+
+module _ (n k : ℕ) (lines starts : List ℕ) where
+  -- THEOREM. Every rank is at most k.
+  pub pruned-ranks : (p : ℕ) → getD (pruned n k lines starts .ranks) p 0 ≤ k
+  unfolding pruned allRounds
+  pruned-ranks = ranked n lines starts (replicate (length lines / 2) 0) (λ p. rw (replicate-at {A = ℕ} (length lines / 2) p 0) (omega arith)) k
+
+  -- THEOREM. The orders are k times n numbers, and the n places of each round have each station once.
+  pub pruned-filled : length (pruned n k lines starts .orders) ≡ k * n
+  unfolding pruned allRounds
+  pruned-filled = filled n lines starts (replicate (length lines / 2) 0) k
+
+  pub pruned-orders : (i : ℕ) → i < k → EachOnce n (take n (drop (i * n) (pruned n k lines starts .orders)))
+  unfolding pruned allRounds
+  pruned-orders = part n lines starts (replicate (length lines / 2) 0) k
