@@ -1,0 +1,55 @@
+-- The laws of lists made of parts.
+-- Assumes nothing.
+use Prim.Native.Nat.{ℕ, zero, suc, _+_, _*_, _<_, _≤_}
+use mathlib.Core.Path.{_≡_, refl, sym, ap, _∙_}
+use mathlib.Core.List.{List, [], _∷_, _++_, append-assoc}
+use native.Mathlib.Nat.{suc-mul}
+use native.Mathlib.Omega.{arith}
+use native.Mathlib.Numerals.{add-one}
+use lib.ListN.{length, getD, set, take, drop, length-append, length-drop, length-set, take-append-drop}
+use lib.Seq.{length-take-le, take-at, drop-at, drop-drop, set-split, sets-eq}
+use Rattle.laws.specs.Fold.{upTo}
+use Rattle.laws.proofs.Fold.{upTo-more}
+use Rattle.netfile.specs.Parts.{gathered, placed}
+
+pub gathered-more : (f : ℕ → List ℕ) (count : ℕ) → gathered f (count + 1) ≡ gathered f count ++ f count
+unfolding gathered
+gathered-more f count = upTo-more (λ index front. front ++ f index) [] count
+
+pub length-gathered : (f : ℕ → List ℕ) (size : ℕ) → ((index : ℕ) → length (f index) ≡ size) → (count : ℕ) → length (gathered f count) ≡ count * size
+unfolding gathered upTo
+length-gathered f size h zero = omega arith
+length-gathered f size h (suc count) = simp (length-append, length-gathered f size h count, h count) (omega (arith, suc-mul count size))
+
+-- A list with a part in it keeps its length.
+pub length-placed : (list part : List ℕ) (index : ℕ) → index + length part ≤ length list → length (placed list index part) ≡ length list
+unfolding placed
+length-placed list part index h = simp (length-append, length-drop) (omega (arith, length-take-le index list (omega arith)))
+
+-- A part put in after a part is the two put in at once.
+pub placed-after : (list a b : List ℕ) (index at : ℕ) → index ≤ length list → index + length a ≡ at → placed (placed list index a) at b ≡ placed list index (a ++ b)
+unfolding placed
+placed-after list a b index at h e =
+    let t = take index list in
+    let r = drop (index + length a) list in
+    let l : length (t ++ a) ≡ at = simp length-append (omega (arith, length-take-le index list h)) in
+    let p : t ++ (a ++ r) ≡ (t ++ a) ++ r = sym (append-assoc t a r) in
+    let q : drop (at + length b) ((t ++ a) ++ r) ≡ drop (at + length b) list =
+    sym (drop-drop (length b) at ((t ++ a) ++ r))
+    ∙ (ap (drop (length b)) (drop-at (t ++ a) r at l) ∙ (drop-drop (length b) (index + length a) list ∙ ap (λ (x : ℕ). drop (x + length b) list) e)) in
+    let s : index + length (a ++ b) ≡ at + length b = simp length-append (omega arith) in
+    rw (p, take-at (t ++ a) r at l, q, s) (simp append-assoc)
+
+-- No part at all changes nothing.
+pub placed-none : (list : List ℕ) → list ≡ placed list 0 []
+unfolding placed
+placed-none list = refl
+
+-- One store, and two stores side by side, put in a part.
+pub store-one : (list : List ℕ) (index a : ℕ) → index < length list → set list index a ≡ placed list index (a ∷ [])
+unfolding placed
+store-one list index a h = sets-eq (a ∷ []) list index (omega arith) ∙ append-assoc (take index list) (a ∷ []) (drop (index + 1) list)
+
+pub store-two : (list : List ℕ) (index a b : ℕ) → index + 2 ≤ length list → set (set list index a) (index + 1) b ≡ placed list index (a ∷ b ∷ [])
+unfolding placed
+store-two list index a b h = rw (add-one index) (sets-eq (a ∷ b ∷ []) list index h ∙ append-assoc (take index list) (a ∷ b ∷ []) (drop (index + 2) list))
