@@ -3,3 +3,4 @@ pub mod Records
 pub mod Files
 pub mod Contents
 pub mod Determined
+pub mod Written

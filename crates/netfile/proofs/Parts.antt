@@ -3,7 +3,7 @@
 use Prim.Native.Nat.{ℕ, zero, suc, _+_, _*_, _<_, _≤_}
 use mathlib.Core.Path.{_≡_, refl, sym, ap, _∙_}
 use mathlib.Core.List.{List, [], _∷_, _++_, append-assoc}
-use native.Mathlib.Nat.{suc-mul}
+use native.Mathlib.Nat.{suc-mul, add-zero}
 use native.Mathlib.Omega.{arith}
 use native.Mathlib.Numerals.{add-one}
 use lib.ListN.{length, getD, set, take, drop, length-append, length-drop, length-set, take-append-drop}
@@ -40,10 +40,16 @@ placed-after list a b index at h e =
     let s : index + length (a ++ b) ≡ at + length b = simp length-append (omega arith) in
     rw (p, take-at (t ++ a) r at l, q, s) (simp append-assoc)
 
--- No part at all changes nothing.
-pub placed-none : (list : List ℕ) → list ≡ placed list 0 []
-unfolding placed
-placed-none list = refl
+-- Gathered parts put in one at a time: none changes nothing, and one more after those before it.
+pub gathered-none : (f : ℕ → List ℕ) (list : List ℕ) (index : ℕ) → list ≡ placed list index (gathered f 0)
+unfolding placed gathered upTo
+gathered-none f list index = rw (add-zero index) (sym (take-append-drop index list))
+
+pub gathered-next : (f : ℕ → List ℕ) (size : ℕ) → ((index : ℕ) → length (f index) ≡ size) → (list : List ℕ) (index at count : ℕ) → index ≤ length list
+    → index + count * size ≡ at → placed (placed list index (gathered f count)) at (f count) ≡ placed list index (gathered f (count + 1))
+gathered-next f size same list index at count h e =
+    placed-after list (gathered f count) (f count) index at h (omega (arith, length-gathered f size same count))
+    ∙ ap (placed list index) (sym (gathered-more f count))
 
 -- One store, and two stores side by side, put in a part.
 pub store-one : (list : List ℕ) (index a : ℕ) → index < length list → set list index a ≡ placed list index (a ∷ [])

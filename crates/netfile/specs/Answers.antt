@@ -9,6 +9,8 @@ use Rattle.netfile.specs.declared.Record.{Record}
 use Rattle.netfile.specs.declared.Record.the-variants.{Line, Start, End, Refused}
 use Rattle.netfile.specs.declared.Reading.{Reading}
 use Rattle.netfile.specs.declared.Reading.the-variants.{Network, Refused as ReadingRefused}
+use Rattle.netfile.specs.declared.Writing.{Writing}
+use Rattle.netfile.specs.declared.Writing.the-variants.{Bytes, Refused as WritingRefused}
 
 -- A record by its mark, or its refusal.
 abbrev pub recordAnswer : Record → Answer ℕ
@@ -25,3 +27,8 @@ factsOf found = record { stations = found .stations; level = found .level .0; li
 abbrev pub readingAnswer : Reading → Answer Facts
 readingAnswer (Network found) = given (factsOf found)
 readingAnswer (ReadingRefused r) = refusalAnswer r
+
+-- What writing answers.
+abbrev pub writingAnswer : Writing → Answer ℕ
+writingAnswer (Bytes count) = given count
+writingAnswer (WritingRefused r) = refusalAnswer r
