@@ -6,3 +6,4 @@ pub mod Contents
 pub mod Determined
 pub mod Written
 pub mod WrittenRead
+pub mod ReadWritten

@@ -1,13 +1,13 @@
 -- The laws of lists made of parts.
 -- Assumes nothing.
 use Prim.Native.Nat.{ℕ, zero, suc, _+_, _*_, _<_, _≤_}
-use mathlib.Core.Path.{_≡_, refl, sym, ap, _∙_}
+use mathlib.Core.Path.{_≡_, sym, ap, _∙_}
 use mathlib.Core.List.{List, [], _∷_, _++_, append-assoc}
 use native.Mathlib.Nat.{suc-mul, add-zero}
 use native.Mathlib.Omega.{arith}
 use native.Mathlib.Numerals.{add-one}
-use lib.ListN.{length, getD, set, take, drop, length-append, length-drop, length-set, take-append-drop}
-use lib.Seq.{length-take-le, take-at, drop-at, drop-drop, set-split, sets-eq}
+use lib.ListN.{length, set, take, drop, length-append, take-append-drop}
+use lib.Seq.{length-take-le, take-at, drop-at, drop-drop, sets-eq}
 use Rattle.laws.specs.Fold.{upTo}
 use Rattle.laws.proofs.Fold.{upTo-more}
 use Rattle.netfile.specs.Parts.{gathered, placed}
@@ -20,11 +20,6 @@ pub length-gathered : (f : ℕ → List ℕ) (size : ℕ) → ((index : ℕ) →
 unfolding gathered upTo
 length-gathered f size h zero = omega arith
 length-gathered f size h (suc count) = simp (length-append, length-gathered f size h count, h count) (omega (arith, suc-mul count size))
-
--- A list with a part in it keeps its length.
-pub length-placed : (list part : List ℕ) (index : ℕ) → index + length part ≤ length list → length (placed list index part) ≡ length list
-unfolding placed
-length-placed list part index h = simp (length-append, length-drop) (omega (arith, length-take-le index list (omega arith)))
 
 -- A part put in after a part is the two put in at once.
 pub placed-after : (list a b : List ℕ) (index at : ℕ) → index ≤ length list → index + length a ≡ at → placed (placed list index a) at b ≡ placed list index (a ++ b)

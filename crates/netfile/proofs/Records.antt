@@ -1,20 +1,19 @@
 -- The laws of one record: when it is taken, and what is then known of it; and of the records taken in order, one at a time.
 -- Assumes nothing.
-use Prim.Native.Nat.{ℕ, zero, suc, _+_, _-_, _<_, _≤_}
+use Prim.Native.Nat.{ℕ, zero, suc, _+_, _<_, _≤_}
 use mathlib.Core.Path.{_≡_, refl, sym, ap, _∙_, subst}
 use mathlib.Core.Logic.{_≢_, _⊎_, _⊎_.inl, _⊎_.inr}
 use mathlib.Core.Bool.{Bool, true, false, _&&_, _||_, true≢false}
 use mathlib.Core.List.{List}
 use native.Mathlib.Omega.{arith}
-use native.Mathlib.Numerals.{add-one}
-use borrow.Author.Tests.{ltb-false, eqb-true, eqb-false, le-ltb, lt-ltb, eq-eqb, ne-eqb}
+use borrow.Author.Tests.{ltb-false, eqb-true, eqb-false, le-ltb, eq-eqb, ne-eqb}
 use lib.ListN.{length}
 use lib.Dec.{ltb, eqb}
 use Rattle.laws.specs.Fold.{pick}
 use Rattle.kinds.specs.Answers.{Answer, Answer.given, Answer.refused, taken, refuseIf, _andThen_, isRefused}
 use Rattle.kinds.proofs.Answers.{then-both, passed}
 use Rattle.netfile.specs.Numbers.{numberAt, markNW, markLN, markRT, markEN}
-use Rattle.netfile.specs.Reading.{Facts, offsetAfter, lengthHere, recordJudged, orderAfter, recordCounted, recordAfter, endRead, byMark, recordsRead}
+use Rattle.netfile.specs.Reading.{offsetAfter, lengthHere, recordJudged, orderAfter, recordCounted, recordAfter, endRead, byMark, recordsRead}
 use Rattle.netfile.specs.declared.Order.{Order}
 use Rattle.netfile.specs.declared.Order.the-variants.{First, Lines, Starts}
 

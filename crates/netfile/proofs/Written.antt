@@ -1,7 +1,7 @@
 -- The laws of writing: the records put in one after the other are the file, and the room it takes.
 -- Assumes nothing.
 use Prim.Native.Nat.{ℕ, _+_, _*_, _-_, _/_, _<_, _≤_}
-use mathlib.Core.Path.{_≡_, refl, sym, ap, _∙_}
+use mathlib.Core.Path.{_≡_, refl, sym, _∙_}
 use mathlib.Core.List.{List, _++_}
 use native.Mathlib.Omega.{arith}
 use native.Mathlib.Decide.{decLt}
@@ -14,38 +14,42 @@ use Rattle.netfile.specs.Reading.{offsetAfter}
 use Rattle.netfile.specs.Writing.{twoRecord, oneRecord, lineRecord, startRecord, fileBytes}
 use Rattle.netfile.proofs.Parts.{length-gathered, placed-after}
 
-pub length-line-records : (lines : List ℕ) (m : ℕ) → length (gathered (lineRecord lines) m) ≡ 6 * m
-length-line-records lines m = omega (arith, length-gathered (lineRecord lines) 6 (λ p. refl) m)
+module _ (n k : ℕ) (lines starts : List ℕ) where
+  -- The file up to its last LN record, and up to its last RT record.
+  abbrev pub upToLines : List ℕ
+  upToLines = twoRecord markNW n k ++ gathered (lineRecord lines) (length lines / 2)
 
-pub length-start-records : (starts : List ℕ) (s : ℕ) → length (gathered (startRecord starts) s) ≡ 4 * s
-length-start-records starts s = omega (arith, length-gathered (startRecord starts) 4 (λ q. refl) s)
+  abbrev pub upToStarts : List ℕ
+  upToStarts = upToLines ++ gathered (startRecord starts) (length starts)
 
--- NW at 0, the LN records after it, the RT records after those, and EN are the file.
-pub file-placed : (n k : ℕ) (lines starts bytes : List ℕ)
-    → placed
-    (placed
-    (placed (placed bytes 0 (twoRecord markNW n k)) 6 (gathered (lineRecord lines) (length lines / 2)))
-    (6 + 6 * (length lines / 2))
-    (gathered (startRecord starts) (length starts)))
-    (offsetAfter (length lines / 2) (length starts))
-    (oneRecord markEN (length lines / 2))
-    ≡ placed bytes 0 (fileBytes n k lines starts)
-unfolding fileBytes
-file-placed n k lines starts bytes =
-    let m = length lines / 2 in
-    let s = length starts in
-    let first = twoRecord markNW n k in
-    let ends = gathered (lineRecord lines) m in
-    let begins = gathered (startRecord starts) s in
-    let l = length-line-records lines m in
-    let r = length-start-records starts s in
-    let a : 0 + length (first ++ ends) ≡ 6 + 6 * m = omega (arith, length-append first ends) in
-    let b : 0 + length ((first ++ ends) ++ begins) ≡ offsetAfter m s = omega (arith, length-append (first ++ ends) begins, length-append first ends) in
-    rw (
-      placed-after bytes first ends 0 6 (omega arith) refl,
-      placed-after bytes (first ++ ends) begins 0 (6 + 6 * m) (omega arith) a,
-      placed-after bytes ((first ++ ends) ++ begins) (oneRecord markEN m) 0 (offsetAfter m s) (omega arith) b,
-    )
+  pub length-to-lines : length upToLines ≡ 6 + 6 * (length lines / 2)
+  length-to-lines =
+      let m = length lines / 2 in
+      omega (arith, length-append (twoRecord markNW n k) (gathered (lineRecord lines) m), length-gathered (lineRecord lines) 6 (λ p. refl) m)
+
+  pub length-to-starts : length upToStarts ≡ offsetAfter (length lines / 2) (length starts)
+  length-to-starts =
+      let s = length starts in
+      omega (arith, length-append upToLines (gathered (startRecord starts) s), length-to-lines, length-gathered (startRecord starts) 4 (λ q. refl) s)
+
+  -- NW at 0, the LN records after it, the RT records after those, and EN are the file.
+  pub file-placed : (bytes : List ℕ)
+      → placed
+      (placed
+      (placed (placed bytes 0 (twoRecord markNW n k)) 6 (gathered (lineRecord lines) (length lines / 2)))
+      (6 + 6 * (length lines / 2))
+      (gathered (startRecord starts) (length starts)))
+      (offsetAfter (length lines / 2) (length starts))
+      (oneRecord markEN (length lines / 2))
+      ≡ placed bytes 0 (fileBytes n k lines starts)
+  unfolding fileBytes
+  file-placed bytes =
+      let m = length lines / 2 in
+      rw (
+        placed-after bytes (twoRecord markNW n k) (gathered (lineRecord lines) m) 0 6 (omega arith) refl,
+        placed-after bytes upToLines (gathered (startRecord starts) (length starts)) 0 (6 + 6 * m) (omega arith) (omega (arith, length-to-lines)),
+        placed-after bytes upToStarts (oneRecord markEN m) 0 (offsetAfter m (length starts)) (omega arith) (omega (arith, length-to-starts)),
+      )
 
 -- Where EN and the LN records have room, the RT records decide.
 pub short-starts : (room m s : ℕ) → 10 ≤ room → m ≤ (room - 10) / 6 → ltb ((room - 10 - 6 * m) / 4) s ≡ ltb room (offsetAfter m s + 4)

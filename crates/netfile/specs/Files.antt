@@ -1,6 +1,6 @@
 -- What a network file is, said of its bytes: "One NW (n, k), any number of LN, any number of RT, one EN (count of LN), in that order".
 -- Assumes nothing.
-use Prim.Native.Nat.{ℕ, _+_, _<_, _≤_}
+use Prim.Native.Nat.{ℕ, _+_, _/_, _<_, _≤_}
 use mathlib.Core.Path.{_≡_}
 use mathlib.Core.List.{List}
 use lib.ListN.{length}
@@ -19,3 +19,7 @@ pub record Formed (bytes : List ℕ) (facts : Facts) : Type 0 where
   pub start-marks : (q : ℕ) → q < facts .starts → numberAt bytes (offsetAfter (facts .lines) q) ≡ markRT
   pub end-mark : numberAt bytes (offsetAfter (facts .lines) (facts .starts)) ≡ markEN
   pub end-count : numberAt bytes (offsetAfter (facts .lines) (facts .starts) + 2) ≡ facts .lines
+
+-- The facts of the network of n stations, level k, a line list and starts.
+abbrev pub networkFacts : ℕ → ℕ → List ℕ → List ℕ → Facts
+networkFacts n k lines starts = record { stations = n; level = k; lines = length lines / 2; starts = length starts }

@@ -1,6 +1,6 @@
 -- Writing: the bytes of a network, and what writing answers.
 -- Assumes nothing.
-use Prim.Native.Nat.{ℕ, _+_, _*_, _/_}
+use Prim.Native.Nat.{ℕ, _+_, _/_}
 use mathlib.Core.List.{List, _++_}
 use lib.ListN.{length, getD}
 use lib.Dec.{ltb}
