@@ -1,4 +1,4 @@
--- `netfile::write_lines` meets its contract. The loop's invariant: the LN records before p are put in after NW. The measure is the number
+-- `netfile::file::write_lines` meets its contract. The loop's invariant: the LN records before p are put in after NW. The measure is the number
 -- of lines left. Assumes nothing.
 use Prim.Native.Nat.{ℕ, _+_, _*_, _-_, _/_, _≤_}
 use mathlib.Core.Path.{_≡_, refl, ap, _∙_}
@@ -9,8 +9,8 @@ use lib.ListN.{length}
 use Rattle.netfile.specs.Parts.{placed, gathered}
 use Rattle.netfile.proofs.Parts.{gathered-none, gathered-next}
 use Rattle.netfile.specs.Writing.{lineRecord}
-use Rattle.netfile.proofs.write_lines.Statement.{statement}
-use Rattle.netfile.proofs.write_lines.Tie as tie
+use Rattle.netfile.proofs.file.write_lines.Statement.{statement}
+use Rattle.netfile.proofs.file.write_lines.Tie as tie
 
 abbrev Inv-loop : tie.InvT-loop
 Inv-loop lines bytes₀ count p₀ bytes p = (p ≤ count) × (length bytes ≡ length bytes₀) × (bytes ≡ placed bytes₀ (6) (gathered (lineRecord lines) p))

@@ -1,4 +1,4 @@
--- `netfile::put_one` meets its contract. A number put in after the mark is the record put in at once. Assumes nothing.
+-- `netfile::file::put_one` meets its contract. A number put in after the mark is the record put in at once. Assumes nothing.
 use Prim.Native.Nat.{ℕ, _+_}
 use mathlib.Core.Path.{refl, ap, _∙_}
 use mathlib.Core.List.{List}
@@ -7,8 +7,8 @@ use borrow.Author.Needs.{needs}
 use Rattle.netfile.specs.Numbers.{numberBytes}
 use Rattle.netfile.specs.Parts.{placed}
 use Rattle.netfile.proofs.Parts.{placed-after}
-use Rattle.netfile.proofs.put_one.Statement.{statement}
-use Rattle.netfile.proofs.put_one.Tie as tie
+use Rattle.netfile.proofs.file.put_one.Statement.{statement}
+use Rattle.netfile.proofs.file.put_one.Tie as tie
 
 put-number-requires : tie.Need-put-number-requires
 put-number-requires c κs = search needs

@@ -1,4 +1,4 @@
--- `netfile::put_two` meets its contract. A number put in after a record of one is the record of two put in at once. Assumes nothing.
+-- `netfile::file::put_two` meets its contract. A number put in after a record of one is the record of two put in at once. Assumes nothing.
 use Prim.Native.Nat.{ℕ, _+_}
 use mathlib.Core.Path.{refl, ap, _∙_}
 use mathlib.Core.List.{List}
@@ -8,8 +8,8 @@ use Rattle.netfile.specs.Numbers.{numberBytes}
 use Rattle.netfile.specs.Parts.{placed}
 use Rattle.netfile.proofs.Parts.{placed-after}
 use Rattle.netfile.specs.Writing.{oneRecord}
-use Rattle.netfile.proofs.put_two.Statement.{statement}
-use Rattle.netfile.proofs.put_two.Tie as tie
+use Rattle.netfile.proofs.file.put_two.Statement.{statement}
+use Rattle.netfile.proofs.file.put_two.Tie as tie
 
 put-one-requires : tie.Need-put-one-requires
 put-one-requires c κs = search needs

@@ -1,4 +1,4 @@
--- `netfile::is_short` meets its contract. Each return compares the room with what the file takes, by the tests that led to it. Assumes
+-- `netfile::file::is_short` meets its contract. Each return compares the room with what the file takes, by the tests that led to it. Assumes
 -- nothing.
 use Prim.Native.Nat.{_+_}
 use mathlib.Core.Path.{sym}
@@ -7,8 +7,8 @@ use borrow.Author.Tests.{lt-ltb}
 use borrow.Author.Needs.{needs}
 use Rattle.netfile.proofs.Written.{short-starts}
 use Rattle.netfile.specs.Reading.{offsetAfter}
-use Rattle.netfile.proofs.is_short.Statement.{statement}
-use Rattle.netfile.proofs.is_short.Tie as tie
+use Rattle.netfile.proofs.file.is_short.Statement.{statement}
+use Rattle.netfile.proofs.file.is_short.Tie as tie
 
 returns : tie.Need-returns
 returns c = let a = c .before .args in sym (lt-ltb (a .room) (offsetAfter (a .counts .lines) (a .counts .starts) + 4) (omega arith))

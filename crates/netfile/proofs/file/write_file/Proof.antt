@@ -1,4 +1,4 @@
--- `netfile::write_file` meets its contract. The records put in one after the other are the file. Assumes nothing.
+-- `netfile::file::write_file` meets its contract. The records put in one after the other are the file. Assumes nothing.
 use Prim.Native.Nat.{ℕ, _+_, _*_, _/_}
 use mathlib.Core.Path.{refl, ap, _∙_}
 use mathlib.Core.List.{List}
@@ -9,8 +9,8 @@ use Rattle.netfile.proofs.Written.{file-placed}
 use Rattle.netfile.specs.Numbers.{markEN}
 use Rattle.netfile.specs.Writing.{oneRecord, lineRecord, startRecord}
 use Rattle.netfile.specs.Reading.{offsetAfter}
-use Rattle.netfile.proofs.write_file.Statement.{statement}
-use Rattle.netfile.proofs.write_file.Tie as tie
+use Rattle.netfile.proofs.file.write_file.Statement.{statement}
+use Rattle.netfile.proofs.file.write_file.Tie as tie
 
 cast-k : tie.Need-cast-k
 cast-k c = search needs

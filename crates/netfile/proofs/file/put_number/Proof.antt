@@ -1,11 +1,11 @@
--- `netfile::put_number` meets its contract. Two stores side by side put in the number's bytes. Assumes nothing.
+-- `netfile::file::put_number` meets its contract. Two stores side by side put in the number's bytes. Assumes nothing.
 use Prim.Native.Nat.{_/_, _%_}
 use native.Mathlib.Omega.{arith}
 use borrow.Author.Needs.{needs}
 use lib.ListN.{length-set}
 use Rattle.netfile.proofs.Parts.{store-two}
-use Rattle.netfile.proofs.put_number.Statement.{statement}
-use Rattle.netfile.proofs.put_number.Tie as tie
+use Rattle.netfile.proofs.file.put_number.Statement.{statement}
+use Rattle.netfile.proofs.file.put_number.Tie as tie
 
 cast-bytes : tie.Need-cast-bytes
 cast-bytes c = search needs

@@ -1,4 +1,4 @@
--- `netfile::write_starts` meets its contract. The loop's invariant: the RT records before q are put in after the LN records. The measure is
+-- `netfile::file::write_starts` meets its contract. The loop's invariant: the RT records before q are put in after the LN records. The measure is
 -- the number of starts left. Assumes nothing.
 use Prim.Native.Nat.{ℕ, _+_, _*_, _-_, _≤_}
 use mathlib.Core.Path.{_≡_, refl, ap, _∙_}
@@ -9,8 +9,8 @@ use lib.ListN.{length}
 use Rattle.netfile.specs.Parts.{placed, gathered}
 use Rattle.netfile.proofs.Parts.{gathered-none, gathered-next}
 use Rattle.netfile.specs.Writing.{startRecord}
-use Rattle.netfile.proofs.write_starts.Statement.{statement}
-use Rattle.netfile.proofs.write_starts.Tie as tie
+use Rattle.netfile.proofs.file.write_starts.Statement.{statement}
+use Rattle.netfile.proofs.file.write_starts.Tie as tie
 
 abbrev Inv-loop : tie.InvT-loop
 Inv-loop count starts bytes₀ s q₀ bytes q = (q ≤ s) × (length bytes ≡ length bytes₀) × (bytes ≡ placed bytes₀ (6 + 6 * count) (gathered (startRecord starts) q))
