@@ -64,7 +64,7 @@ unfoldable pub byMark : Answer ℕ → Answer Facts → Answer Facts → Answer 
 byMark (refused number place list) line start end = refused number place list
 byMark (given mark) line start end = pick (eqb mark markLN) line (pick (eqb mark markRT) start end)
 
--- The records after m LN and s RT, taken in order. `left` is more than the records left can be: each is some bytes long.
+-- The records after m LN and s RT, taken in order. `left` bounds how many; with as many as there are bytes, the file ends first.
 unfoldable pub recordsRead : List ℕ → ℕ → ℕ → ℕ → Answer Facts
 recordsRead bytes m s zero = refused 21 (offsetAfter m s) 3
 recordsRead bytes m s (suc left) =

@@ -11,17 +11,19 @@ use Rattle.netfile.specs.Numbers.{numberBytes, markNW, markLN, markRT, m
 use Rattle.netfile.specs.Parts.{gathered, placed}
 use Rattle.netfile.specs.Reading.{offsetAfter}
 
--- A record of two numbers after its mark, as NW and LN; and of one, as RT and EN.
+-- A record of two numbers after its mark, as NW and LN.
 abbrev pub twoRecord : ℕ → ℕ → ℕ → List ℕ
 twoRecord mark a b = numberBytes mark ++ (numberBytes a ++ numberBytes b)
 
+-- A record of one number after its mark, as RT and EN.
 abbrev pub oneRecord : ℕ → ℕ → List ℕ
 oneRecord mark a = numberBytes mark ++ numberBytes a
 
--- The LN record of the line at place p, and the RT record of the start at index q.
+-- The LN record of the line at place p.
 abbrev pub lineRecord : List ℕ → ℕ → List ℕ
 lineRecord lines p = twoRecord markLN (endOne lines p) (endTwo lines p)
 
+-- The RT record of the starting station at index q.
 abbrev pub startRecord : List ℕ → ℕ → List ℕ
 startRecord starts q = oneRecord markRT (getD starts q 0)
 
