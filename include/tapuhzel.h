@@ -18,4 +18,11 @@
  * list order for 6 (an end is n or more), 7 (the ends are equal) and 8 (the same two ends stood earlier). */
 uint8_t tapuhzel_judge(size_t n, const uint16_t *lines, size_t lines_len, size_t *place, uint8_t *list);
 
+/* Prunes a network of n stations at a level, from a starting station for each round. ranks gets a byte for each line,
+ * orders level times n numbers, later places stay; *kept is the count of kept lines, 0 where the call is refused.
+ * Refusals 1, 2, 3, 4, 5, then lines, then 9; a refused call leaves ranks and orders as they were. */
+uint8_t tapuhzel_prune(size_t n, size_t level, const uint16_t *lines, size_t lines_len, const uint16_t *starts,
+                       size_t starts_len, uint8_t *ranks, size_t ranks_len, uint16_t *orders, size_t orders_len,
+                       size_t *kept, size_t *place, uint8_t *list);
+
 #endif

@@ -2,6 +2,22 @@
 
 extern "C" {
     fn tapuhzel_judge(n: usize, lines: *const u16, lines_len: usize, place: *mut usize, list: *mut u8) -> u8;
+    #[allow(clippy::too_many_arguments)]
+    fn tapuhzel_prune(
+        n: usize,
+        level: usize,
+        lines: *const u16,
+        lines_len: usize,
+        starts: *const u16,
+        starts_len: usize,
+        ranks: *mut u8,
+        ranks_len: usize,
+        orders: *mut u16,
+        orders_len: usize,
+        kept: *mut usize,
+        place: *mut usize,
+        list: *mut u8,
+    ) -> u8;
 }
 
 /// A routine's number, place and list, as `include/tapuhzel.h` encodes them.
@@ -17,4 +33,29 @@ pub(crate) fn judge(n: usize, lines: &[u16]) -> Said {
     // SAFETY: the pointer and the length are of one live slice; the two results are live and apart from it.
     let number = unsafe { tapuhzel_judge(n, lines.as_ptr(), lines.len(), &mut place, &mut list) };
     Said { number, place, list }
+}
+
+pub(crate) fn prune(n: usize, level: usize, lines: &[u16], starts: &[u16], ranks: &mut [u8], orders: &mut [u16]) -> (usize, Said) {
+    let mut kept = 0;
+    let mut place = 0;
+    let mut list = 0;
+    // SAFETY: each pointer and length are of one live slice; the slices and the three results are apart from each other.
+    let number = unsafe {
+        tapuhzel_prune(
+            n,
+            level,
+            lines.as_ptr(),
+            lines.len(),
+            starts.as_ptr(),
+            starts.len(),
+            ranks.as_mut_ptr(),
+            ranks.len(),
+            orders.as_mut_ptr(),
+            orders.len(),
+            &mut kept,
+            &mut place,
+            &mut list,
+        )
+    };
+    (kept, Said { number, place, list })
 }

@@ -8,6 +8,10 @@ mod ffi;
 #[derive(Clone, Copy, Debug, PartialEq, Eq, PartialOrd, Ord)]
 pub struct Place(pub u16);
 
+/// The number of a round, 1 to k.
+#[derive(Clone, Copy, Debug, PartialEq, Eq, PartialOrd, Ord)]
+pub struct Round(pub u8);
+
 /// Why an input is refused, and where.
 #[derive(Clone, Copy, Debug, PartialEq, Eq)]
 pub enum Refusal {
@@ -15,12 +19,37 @@ pub enum Refusal {
     StationCount,
     /// 2: the line list has an odd length or over 16,384 numbers.
     LineCount,
+    /// 3: k is not 1 to 16.
+    LevelRange,
+    /// 4: the number of starting stations is not k.
+    StartCount,
+    /// 5: a lent buffer is shorter than needed.
+    Room,
     /// 6: a line end is n or more.
     EndOutside(Place),
     /// 7: a line's ends are equal.
     EndsEqual(Place),
     /// 8: the same two ends, either way round, stood earlier.
     StoodEarlier(Place),
+    /// 9: a starting station is n or more.
+    StartOutside(Round),
+}
+
+/// The refusal of a number and a place, as the routines here give them.
+fn refusal(said: ffi::Said) -> Refusal {
+    let place = Place(said.place as u16);
+    match said.number {
+        1 => Refusal::StationCount,
+        2 => Refusal::LineCount,
+        3 => Refusal::LevelRange,
+        4 => Refusal::StartCount,
+        5 => Refusal::Room,
+        6 => Refusal::EndOutside(place),
+        7 => Refusal::EndsEqual(place),
+        8 => Refusal::StoodEarlier(place),
+        9 => Refusal::StartOutside(Round(said.place as u8)),
+        number => unreachable!("no routine here refuses by {number} (list {})", said.list),
+    }
 }
 
 /// Whether a network of `n` stations and a flat list of line ends is taken.
@@ -32,14 +61,20 @@ pub enum Refusal {
 /// ```
 pub fn judge(n: usize, lines: &[u16]) -> Result<(), Refusal> {
     let said = ffi::judge(n, lines);
-    let place = Place(said.place as u16);
-    match said.number {
-        0 => Ok(()),
-        1 => Err(Refusal::StationCount),
-        2 => Err(Refusal::LineCount),
-        6 => Err(Refusal::EndOutside(place)),
-        7 => Err(Refusal::EndsEqual(place)),
-        8 => Err(Refusal::StoodEarlier(place)),
-        number => unreachable!("the judge refuses by 1, 2, 6, 7 and 8, not {number} (list {})", said.list),
-    }
+    if said.number == 0 { Ok(()) } else { Err(refusal(said)) }
+}
+
+/// Prunes a network of `n` stations at a level, from a starting station for each round: each line's rank goes to `ranks`,
+/// each round's order to `orders`, and the count of kept lines is the answer. A refused call changes no buffer.
+///
+/// ```
+/// let lines = [0, 1, 0, 2, 0, 3, 1, 2, 1, 3, 2, 3];
+/// let (mut ranks, mut orders) = ([0; 6], [0; 8]);
+/// assert_eq!(tapuhzel::prune(4, 2, &lines, &[0, 0], &mut ranks, &mut orders), Ok(5));
+/// assert_eq!(ranks, [1, 1, 1, 2, 2, 0]);
+/// assert_eq!(orders, [0, 1, 2, 3, 0, 1, 2, 3]);
+/// ```
+pub fn prune(n: usize, level: usize, lines: &[u16], starts: &[u16], ranks: &mut [u8], orders: &mut [u16]) -> Result<usize, Refusal> {
+    let (kept, said) = ffi::prune(n, level, lines, starts, ranks, orders);
+    if said.number == 0 { Ok(kept) } else { Err(refusal(said)) }
 }

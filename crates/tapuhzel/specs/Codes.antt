@@ -14,3 +14,8 @@ placeSaid (refused number place list) = place
 abbrev pub listSaid : {A : Type 0} → Answer A → ℕ
 listSaid (given value) = 0
 listSaid (refused number place list) = list
+
+-- The count that an answer gives, 0 where it is refused.
+abbrev pub countSaid : Answer ℕ → ℕ
+countSaid (given count) = count
+countSaid (refused number place list) = 0

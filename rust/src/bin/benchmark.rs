@@ -13,6 +13,45 @@ fn main() {
         let ordinary = median(|| assert!(black_box(ordinary_judge(stations, black_box(&network)))));
         row("judge", stations, lines, proved, ordinary);
     }
+    for (stations, lines, level) in [(64, 128, 3), (200, 1_000, 3), (512, 2_048, 3), (1_024, 8_192, 3), (1_024, 8_192, 16)] {
+        let network = random_network(stations, lines, 7);
+        let starts = vec![0; level];
+        let mut ranks = vec![0; lines];
+        let mut orders = vec![0; level * stations];
+        let proved = median(|| assert!(black_box(tapuhzel::prune(stations, level, black_box(&network), &starts, &mut ranks, &mut orders)).is_ok()));
+        let mut others = vec![0; lines];
+        let ordinary = median(|| ordinary_prune(stations, black_box(&network), &starts, &mut others));
+        assert_eq!(ranks, others, "the two programs disagree");
+        row(&format!("prune {level}"), stations, lines, proved, ordinary);
+    }
+}
+
+/// Pruning as one would write it without proofs: a neighbour table, built once.
+fn ordinary_prune(stations: usize, lines: &[u16], starts: &[u16], ranks: &mut [u8]) {
+    assert!(ordinary_judge(stations, lines));
+    let mut neighbours = vec![Vec::new(); stations];
+    for (place, line) in lines.chunks_exact(2).enumerate() {
+        neighbours[line[0] as usize].push((line[1] as usize, place));
+        neighbours[line[1] as usize].push((line[0] as usize, place));
+    }
+    ranks.fill(0);
+    for (round, &start) in starts.iter().enumerate() {
+        let mut marked = vec![false; stations];
+        let mut scanned = vec![false; stations];
+        marked[start as usize] = true;
+        for _ in 0..stations {
+            let ready = (0..stations).find(|&v| marked[v] && !scanned[v]);
+            let u = ready.unwrap_or_else(|| (0..stations).find(|&v| !marked[v]).expect("a station is left"));
+            marked[u] = true;
+            scanned[u] = true;
+            for &(v, place) in &neighbours[u] {
+                if ranks[place] == 0 && !marked[v] {
+                    ranks[place] = round as u8 + 1;
+                    marked[v] = true;
+                }
+            }
+        }
+    }
 }
 
 /// Simple lines between random stations, the same for the same seed.

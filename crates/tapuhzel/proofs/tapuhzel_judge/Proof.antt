@@ -1,20 +1,46 @@
 -- `tapuhzel::tapuhzel_judge` meets its contract. What the judge ensures, through the encoding. Assumes nothing.
-use mathlib.Core.Path.{_∙_, ap}
+use mathlib.Core.Path.{_≡_, sym, _∙_}
 use borrow.Author.Needs.{needs}
-use Rattle.tapuhzel.specs.Codes.{numberSaid, placeSaid, listSaid}
+use Rattle.kinds.specs.Answers.{Answer.given, taken, refusalAnswer}
+use Rattle.network.specs.Judging.{listJudged}
 use Rattle.tapuhzel.proofs.tapuhzel_judge.Statement.{statement}
 use Rattle.tapuhzel.proofs.tapuhzel_judge.Tie as tie
 
 judge-requires : tie.Need-judge-requires
 judge-requires c κs = search needs
 
-say-judged-requires : tie.Need-say-judged-requires
-say-judged-requires c κs = search needs
+enum-known-judged : tie.Need-enum-known-judged
+enum-known-judged c = search needs
+
+say-refusal-requires : tie.Need-say-refusal-requires
+say-refusal-requires c κs = search needs
 
 returns : tie.Need-returns
 returns c =
-    let e = c .before .before .before .judge .ensures in
-    (c .say-judged .ensures .0 ∙ ap numberSaid e, (c .say-judged .ensures .1 .0 ∙ ap placeSaid e, c .say-judged .ensures .1 .1 ∙ ap listSaid e))
+    let a = c .before .before .before .before .before .before .before .before .args in
+    let e : listJudged 0 (a .n) (a .lines .now) ≡ refusalAnswer (c .before .before .before .before .judged .given .0 .0) = sym (c .before .before .before .before .before .before .judge .ensures) ∙ rw (c .before .before .before .before .judged .given .1) in
+    (rw e (c .say-refusal .ensures .0), (rw e (c .say-refusal .ensures .1 .0), rw e (c .say-refusal .ensures .1 .1)))
+
+enum-told : tie.Need-enum-told
+enum-told c = search needs
+
+say-taken-requires : tie.Need-say-taken-requires
+say-taken-requires c κs = search needs
+
+returns-2 : tie.Need-returns-2
+returns-2 c =
+    let a = c .before .before .before .before .before .before .before .args in
+    let e : listJudged 0 (a .n) (a .lines .now) ≡ taken = sym (c .before .before .before .before .before .judge .ensures) ∙ rw (c .before .before .before .enum-told .given .1) in
+    (rw e (c .say-taken .ensures .0), (rw e (c .say-taken .ensures .1), rw e (c .say-taken .ensures .2)))
 
 pub tapuhzel-judge-spec : {M : Type 1} → statement M
-tapuhzel-judge-spec = tie.close (tie.spec judge-requires say-judged-requires returns)
+tapuhzel-judge-spec =
+    tie.close
+    (tie.spec
+    judge-requires
+    enum-known-judged
+    say-refusal-requires
+    returns
+    enum-told
+    say-taken-requires
+    returns-2)
