@@ -21,47 +21,47 @@ abbrev pub field : List ℕ → ℕ → List ℕ
 field word x = word ++ decimal x
 
 -- "stations " and the number.
-unfoldable pub stationsText : ℕ → List ℕ
+abbrev pub stationsText : ℕ → List ℕ
 stationsText n = field (115 ∷ 116 ∷ 97 ∷ 116 ∷ 105 ∷ 111 ∷ 110 ∷ 115 ∷ 32 ∷ []) n
 
 -- " level " and the number.
-unfoldable pub levelText : ℕ → List ℕ
+abbrev pub levelText : ℕ → List ℕ
 levelText k = field (32 ∷ 108 ∷ 101 ∷ 118 ∷ 101 ∷ 108 ∷ 32 ∷ []) k
 
 -- " lines " and the number.
-unfoldable pub linesText : ℕ → List ℕ
+abbrev pub linesText : ℕ → List ℕ
 linesText count = field (32 ∷ 108 ∷ 105 ∷ 110 ∷ 101 ∷ 115 ∷ 32 ∷ []) count
 
 -- " kept " and the number.
-unfoldable pub keptCountText : ℕ → List ℕ
+abbrev pub keptCountText : ℕ → List ℕ
 keptCountText kept = field (32 ∷ 107 ∷ 101 ∷ 112 ∷ 116 ∷ 32 ∷ []) kept
 
 -- "round " and the number.
-unfoldable pub roundText : ℕ → List ℕ
+abbrev pub roundText : ℕ → List ℕ
 roundText rank = field (114 ∷ 111 ∷ 117 ∷ 110 ∷ 100 ∷ 32 ∷ []) rank
 
 -- " line " and the number.
-unfoldable pub placeText : ℕ → List ℕ
+abbrev pub placeText : ℕ → List ℕ
 placeText place = field (32 ∷ 108 ∷ 105 ∷ 110 ∷ 101 ∷ 32 ∷ []) place
 
 -- " from " and the number.
-unfoldable pub fromText : ℕ → List ℕ
+abbrev pub fromText : ℕ → List ℕ
 fromText one = field (32 ∷ 102 ∷ 114 ∷ 111 ∷ 109 ∷ 32 ∷ []) one
 
 -- " to " and the number.
-unfoldable pub toText : ℕ → List ℕ
+abbrev pub toText : ℕ → List ℕ
 toText two = field (32 ∷ 116 ∷ 111 ∷ 32 ∷ []) two
 
 -- "refused " and the number.
-unfoldable pub refusedNumberText : ℕ → List ℕ
+abbrev pub refusedNumberText : ℕ → List ℕ
 refusedNumberText number = field (114 ∷ 101 ∷ 102 ∷ 117 ∷ 115 ∷ 101 ∷ 100 ∷ 32 ∷ []) number
 
 -- " at " and the number.
-unfoldable pub atText : ℕ → List ℕ
+abbrev pub atText : ℕ → List ℕ
 atText place = field (32 ∷ 97 ∷ 116 ∷ 32 ∷ []) place
 
 -- The end of a row.
-unfoldable pub newline : List ℕ
+abbrev pub newline : List ℕ
 newline = 10 ∷ []
 
 -- "stations N level K lines M kept C".
