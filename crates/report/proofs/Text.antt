@@ -3,15 +3,17 @@
 use Prim.Native.Nat.{ℕ, zero, suc, _+_, _/_, _%_, _^_, _≤_, _<_}
 use mathlib.Core.Path.{_≡_, refl, ap}
 use mathlib.Core.Bool.{Bool, true, false}
+use mathlib.Core.Logic.{_≢_}
 use mathlib.Core.List.{List, [], _∷_, _++_}
 use native.Mathlib.Omega.{arith}
 use native.Mathlib.Nat.{pow-suc}
 use native.Mathlib.Decide.{decLt}
-use lib.ListN.{length, length-append}
+use lib.ListN.{length, getD, length-append}
 use lib.Dec.{ltb}
-use borrow.Author.Tests.{lt-ltb, le-ltb, ltb-false}
+use borrow.Author.Tests.{lt-ltb, le-ltb, ltb-false, eq-eqb, ne-eqb}
 use Rattle.laws.specs.Fold.{pick}
-use Rattle.report.specs.Text.{digits, decimal}
+use Rattle.network.specs.Lines.{endOne, endTwo}
+use Rattle.report.specs.Text.{digits, decimal, lineText, rowText}
 
 -- A bound above x is enough.
 digits-enough : (f g x : ℕ) → x < f → x < g → digits f x ≡ digits g x
@@ -43,3 +45,22 @@ decimal-most (suc k) x h = go (decLt x 10) (λ l. decimal-most k (x / 10) l)
     go : Dec (x < 10) → (x / 10 < 10 ^ suc k → length (decimal (x / 10)) ≤ suc k) → length (decimal x) ≤ suc (suc k)
     go (yes l) ih = rw (decimal-one x l) (omega arith)
     go (no n) ih = rw (decimal-more x (omega arith)) (simp length-append (omega (arith, ih (omega (arith, pow-suc 10 (suc k), h)))))
+
+-- A usize has at most 20 digits, a u16 5, a u8 3.
+pub wide-most : (x : ℕ) → x < 2 ^ 64 → length (decimal x) ≤ 20
+wide-most x h = decimal-most 19 x (omega arith)
+
+pub short-most : (x : ℕ) → x < 2 ^ 16 → length (decimal x) ≤ 5
+short-most x h = decimal-most 4 x (omega arith)
+
+pub byte-most : (x : ℕ) → x < 2 ^ 8 → length (decimal x) ≤ 3
+byte-most x h = decimal-most 2 x (omega arith)
+
+-- A line of rank 0 has no row; any other has one.
+pub row-none : (lines ranks : List ℕ) (p : ℕ) → getD ranks p 0 ≡ 0 → rowText lines ranks p ≡ []
+unfolding rowText
+row-none lines ranks p e = rw (eq-eqb _ _ e)
+
+pub row-some : (lines ranks : List ℕ) (p : ℕ) → getD ranks p 0 ≢ 0 → rowText lines ranks p ≡ lineText (getD ranks p 0) p (endOne lines p) (endTwo lines p)
+unfolding rowText
+row-some lines ranks p n = rw (ne-eqb _ _ n)

@@ -4,6 +4,7 @@ use Prim.Native.Nat.{ℕ, suc, _+_, _≤_, _<_}
 use mathlib.Core.Path.{_≡_, refl, sym, ap, _∙_}
 use mathlib.Core.List.{List, [], _∷_, _++_, append-assoc, append-nil}
 use native.Mathlib.Omega.{arith}
+use native.Mathlib.Nat.{zero-add}
 use native.Mathlib.Numerals.{add-one}
 use lib.ListN.{length, getD, set, take, drop, length-append, length-drop, take-append-drop}
 use lib.Seq.{length-take-le, take-suc, take-at, drop-drop, drop-append-add, set-split}
@@ -50,3 +51,7 @@ puts-more {before} {after} word at i p h k =
     let part : take i word ++ (getD word i 0 ∷ []) ≡ take (i + 1) word = rw add-one (sym (take-suc word i 0 h)) in
     let next : at + i + 1 ≡ at + (i + 1) = omega arith in
     rw (part, next) at (puts-then p (puts-byte after (at + i) (getD word i 0) k))
+
+-- A part at the front.
+pub puts-front : {before part after : List ℕ} {next : ℕ} → Puts before 0 part after next → (next ≡ length part) × (after ≡ part ++ drop (length part) before)
+puts-front p = let e = p .ends ∙ zero-add _ in (e, rw e at (p .text))

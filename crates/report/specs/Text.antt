@@ -76,9 +76,13 @@ lineText rank place one two = (((roundText rank ++ placeText place) ++ fromText 
 unfoldable pub rowText : List ℕ → List ℕ → ℕ → List ℕ
 rowText lines ranks p = pick (eqb (getD ranks p 0) 0) [] (lineText (getD ranks p 0) p (endOne lines p) (endTwo lines p))
 
+-- One row more, that of the line at place p.
+abbrev pub addRow : List ℕ → List ℕ → ℕ → List ℕ → List ℕ
+addRow lines ranks p text = text ++ rowText lines ranks p
+
 -- The rows of the kept lines, by place.
 unfoldable pub keptText : List ℕ → List ℕ → List ℕ
-keptText lines ranks = upTo (λ p text. text ++ rowText lines ranks p) [] (length lines / 2)
+keptText lines ranks = upTo (addRow lines ranks) [] (length lines / 2)
 
 -- What keep writes of a pruned network.
 unfoldable pub keepText : ℕ → ℕ → List ℕ → List ℕ → ℕ → List ℕ
