@@ -238,7 +238,7 @@ fn put_refusal(text: &mut [u8], number: usize, place: usize) -> usize
 }
 
 // Writes what keep writes of a pruned network, from the front of `text`. It is TooShort, and nothing changes, where `text` has less room
-// than 128 bytes and 64 for each line, or where there are over 8,192 lines, which no network has.
+// than 128 bytes and 64 for each line, or where the list has over 16,384 numbers, which no network has.
 pub fn write_kept(
     n: usize,
     level: Level,
