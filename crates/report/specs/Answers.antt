@@ -9,7 +9,7 @@ use Rattle.laws.specs.Fold.{pick}
 use Rattle.report.specs.declared.Written.{Written}
 use Rattle.report.specs.declared.Written.the-variants.{Bytes, TooShort}
 
--- Whether a buffer has too little room for what keep writes: 128 bytes for the header, 64 for each line. No room is enough for over 8,192 lines.
+-- Whether a buffer has too little room for what keep writes: 128 bytes for the header, 64 for each line. No room is enough for a list of over 16,384 numbers.
 unfoldable pub keepShort : List ℕ → ℕ → Bool
 keepShort lines room = ltb 16384 (length lines) || ltb room (128 + 64 * (length lines / 2))
 

@@ -217,7 +217,7 @@ fn put_rows(text: &mut [u8], at: usize, lines: &[u16], ranks: &[u8]) -> usize
     next
 }
 
-// Whether a buffer has too little room for what keep writes of so many lines.
+// Whether a buffer has too little room for what keep writes of these lines. So few lines keep the sum from wrapping.
 fn is_short(lines: &[u16], room: usize) -> bool
     ensures short { λ r. ⌜ r ≡ keepShort (now (lines .entry)) room ⌝ }
 {
@@ -237,7 +237,8 @@ fn put_refusal(text: &mut [u8], number: usize, place: usize) -> usize
     put_newline(text, placed)
 }
 
-// Writes what keep writes of a pruned network, from the front of `text`.
+// Writes what keep writes of a pruned network, from the front of `text`. It is TooShort, and nothing changes, where `text` has less room
+// than 128 bytes and 64 for each line, or where the list has over 16,384 numbers, which no network has.
 pub fn write_kept(
     n: usize,
     level: Level,
@@ -257,7 +258,7 @@ pub fn write_kept(
     Written::Bytes(end)
 }
 
-// Writes the one row of a refused input, from the front of `text`.
+// Writes the one row of a refused input, from the front of `text`. It is TooShort, and nothing changes, where `text` has less than 64 bytes.
 pub fn write_refused(refusal: Refusal, text: &mut [u8]) -> Written
     ensures answer { λ r. ⌜ r ≡ writtenAnswer (refusedShort (length (now (text .entry)))) (refusedText (numberOf refusal) (placeOf refusal)) ⌝ }
     ensures text { λ _. ⌜ now (text .exit) ≡ writtenOver (refusedShort (length (now (text .entry)))) (refusedText (numberOf refusal) (placeOf refusal)) (now (text .entry)) ⌝ }

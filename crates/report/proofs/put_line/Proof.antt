@@ -21,7 +21,7 @@ put-place-requires c κs =
 put-from-requires : tie.Need-put-from-requires
 put-from-requires c κs =
     let a = c .before .before .before .before .before .before .before .before .before .before .args in
-    omega (arith, c .before .before .before .before .before .before .before .before .before .before .pre, byte-most (a .round .0) (search needs), short-most (a .place .0) (search needs), short-most (a .line .one .0) (search needs), c .before .before .before .before .before .before .before .put-round .ensures .ends, puts-length (c .before .before .before .before .before .before .before .put-round .ensures), c .before .before .before .put-place .ensures .ends, puts-length (c .before .before .before .put-place .ensures))
+    omega (arith, c .before .before .before .before .before .before .before .before .before .before .pre, byte-most (a .round .0) (search needs), short-most (a .place .0) (search needs), short-most (a .line .one .0) (search needs), short-most (a .line .two .0) (search needs), c .before .before .before .before .before .before .before .put-round .ensures .ends, puts-length (c .before .before .before .before .before .before .before .put-round .ensures), c .before .before .before .put-place .ensures .ends, puts-length (c .before .before .before .put-place .ensures))
 
 put-to-requires : tie.Need-put-to-requires
 put-to-requires c κs =
