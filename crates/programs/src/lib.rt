@@ -1,0 +1,95 @@
+// What the programs write, from the bytes of a file: so that a program only reads and writes.
+use kinds::Level;
+use netfile::Reading;
+use netfile::read;
+use prune::Pruned;
+use prune::prune;
+use report::Written;
+use report::write_kept;
+use report::write_refused;
+ghost use mathlib.Core.Path.{_≡_};
+ghost use mathlib.Core.List.{_++_};
+ghost use mathlib.Core.Bool.{true, false};
+ghost use Prim.Native.Nat.{_+_, _*_, _/_, _≤_, _<_};
+ghost use lib.ListN.{length, drop};
+ghost use lib.Dec.{ltb};
+ghost use Rattle.report.specs.Answers.{writtenAnswer, writtenOver};
+ghost use Rattle.programs.specs.Keep.{networkText, keepOutput};
+
+// Prunes a network and writes what is kept, or why it is refused.
+fn keep_network(
+    n: usize,
+    level: Level,
+    lines: &[u16],
+    starts: &[u16],
+    ranks: &mut [u8],
+    orders: &mut [u16],
+    text: &mut [u8],
+) -> Written
+    requires { ⌜ (length (now ranks) ≡ 8192) × (length (now orders) ≡ 16384) × (length (now lines) ≤ 16384) × (524416 ≤ length (now text)) ⌝ }
+    ensures answer { λ r. ⌜ r ≡ writtenAnswer false (networkText n (level .0) (now (lines .entry)) (now (starts .entry))) ⌝ }
+    ensures text { λ _. ⌜ now (text .exit) ≡ writtenOver false (networkText n (level .0) (now (lines .entry)) (now (starts .entry))) (now (text .entry)) ⌝ }
+{
+    let pruned = prune(n, level, lines, starts, ranks, orders);
+    match pruned {
+        Pruned::Kept(kept) => {
+            let count = lines.len() / 2;
+            write_kept(n, level, lines, &ranks[..count], kept, text)
+        }
+        Pruned::Refused(refusal) => write_refused(refusal, text),
+    }
+}
+
+// Reads a file and writes what keep says of it, with buffers to work in.
+fn keep_file(
+    bytes: &[u8],
+    lines: &mut [u16],
+    starts: &mut [u16],
+    ranks: &mut [u8],
+    orders: &mut [u16],
+    text: &mut [u8],
+) -> Written
+    requires { ⌜ (length (now lines) ≡ 16384) × (length (now starts) ≡ 16) × (length (now ranks) ≡ 8192) × (length (now orders) ≡ 16384) × (524416 ≤ length (now text)) ⌝ }
+    ensures answer { λ r. ⌜ r ≡ writtenAnswer false (keepOutput (now (bytes .entry))) ⌝ }
+    ensures text { λ _. ⌜ now (text .exit) ≡ writtenOver false (keepOutput (now (bytes .entry))) (now (text .entry)) ⌝ }
+{
+    let reading = read(bytes, lines, starts);
+    match reading {
+        Reading::Network(found) => {
+            let size = 2 * found.lines;
+            let count = found.starts;
+            keep_network(
+                found.stations,
+                found.level,
+                &lines[..size],
+                &starts[..count],
+                ranks,
+                orders,
+                text,
+            )
+        }
+        Reading::Refused(refusal) => write_refused(refusal, text),
+    }
+}
+
+// What the program keep writes of the bytes of a file, from the front of `text`, which needs 524,416 bytes.
+pub fn keep_text(bytes: &[u8], text: &mut [u8]) -> Written
+    ensures answer { λ r. ⌜ r ≡ writtenAnswer (ltb (length (now (text .entry))) 524416) (keepOutput (now (bytes .entry))) ⌝ }
+    ensures text { λ _. ⌜ now (text .exit) ≡ writtenOver (ltb (length (now (text .entry))) 524416) (keepOutput (now (bytes .entry))) (now (text .entry)) ⌝ }
+{
+    if text.len() < 524416 {
+        return Written::TooShort;
+    }
+    let mut lines = [0u16; 16384];
+    let mut starts = [0u16; 16];
+    let mut ranks = [0u8; 8192];
+    let mut orders = [0u16; 16384];
+    keep_file(
+        bytes,
+        &mut lines,
+        &mut starts,
+        &mut ranks,
+        &mut orders,
+        text,
+    )
+}
