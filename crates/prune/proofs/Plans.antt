@@ -1,19 +1,19 @@
 -- What pruning makes: ranks of at most k, and for each round an order that has each station once.
 -- Assumes nothing.
 use Prim.Native.Nat.{ℕ, zero, suc, _+_, _*_, _/_, _<_, _≤_}
-use mathlib.Core.Path.{_≡_, sym}
+use mathlib.Core.Path.{_≡_, refl, sym, _∙_}
 use mathlib.Core.List.{List, [], _++_}
 use native.Mathlib.Nat.{zero-mul}
 use native.Mathlib.Decide.{ℕ-discrete}
 use native.Mathlib.Numerals.{add-one}
 use native.Mathlib.Omega.{arith}
-use lib.ListN.{length, getD, take, drop, replicate, length-append, length-drop}
+use lib.ListN.{length, getD, take, drop, replicate, length-append, length-drop, length-replicate}
 use lib.Seq.{drop-at, take-all, take-append-le, drop-append-le}
 use Rattle.laws.specs.Fold.{upTo}
 use Rattle.laws.proofs.Lists.{part-next, part-fits, replicate-at}
 use Rattle.network.specs.Orders.{EachOnce}
 use Rattle.scan.specs.Rule.{oneRound}
-use Rattle.scan.proofs.Order.{round-each-once, round-ranked}
+use Rattle.scan.proofs.Order.{round-each-once, round-ranked, round-size}
 use Rattle.prune.specs.Pruning.{Rounds, rounds, nextRound, allRounds, pruned}
 
 module _ (n : ℕ) (lines starts : List ℕ) (ranks : List ℕ) where
@@ -28,6 +28,11 @@ module _ (n : ℕ) (lines starts : List ℕ) (ranks : List ℕ) where
       let below = ranked none k in
       let r = round-ranked n lines (k + 1) (getD starts k 0) (Done k .ranks) (λ q. omega (arith, below q)) p in
       omega (arith, r)
+
+  sized : (k : ℕ) → length (Done k .ranks) ≡ length ranks
+  unfolding upTo nextRound
+  sized zero = refl
+  sized (suc k) = round-size n lines (k + 1) (getD starts k 0) (Done k .ranks) ∙ sized k
 
   filled : (k : ℕ) → length (Done k .orders) ≡ k * n
   unfolding upTo nextRound
@@ -58,6 +63,11 @@ module _ (n : ℕ) (lines starts : List ℕ) (ranks : List ℕ) where
           (ih (omega arith))
 
 module _ (n k : ℕ) (lines starts : List ℕ) where
+  -- THEOREM. There are m ranks, m the number of lines.
+  pub pruned-size : length (pruned n k lines starts .ranks) ≡ length lines / 2
+  unfolding pruned allRounds
+  pruned-size = sized n lines starts (replicate (length lines / 2) 0) k ∙ length-replicate {A = ℕ} (length lines / 2) 0
+
   -- THEOREM. Every rank is at most k.
   pub pruned-ranks : (p : ℕ) → getD (pruned n k lines starts .ranks) p 0 ≤ k
   unfolding pruned allRounds

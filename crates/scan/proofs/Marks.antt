@@ -17,14 +17,15 @@ use Rattle.scan.specs.Rule.{Marks, marks, takeTo, takeLine, scanStation}
 -- From s to t marks were only added, and no rank is above the bound if none was.
 pub record Grown (bound : ℕ) (s t : Marks) : Type 0 where
   pub size : length (t .marked) ≡ length (s .marked)
+  pub lines : length (t .ranks) ≡ length (s .ranks)
   pub kept : (v : ℕ) → getD (s .marked) v false ≡ true → getD (t .marked) v false ≡ true
   pub ranked : ((p : ℕ) → getD (s .ranks) p 0 ≤ bound) → (p : ℕ) → getD (t .ranks) p 0 ≤ bound
 
 grown-none : (bound : ℕ) (s : Marks) → Grown bound s s
-grown-none bound s = record { size = refl; kept = λ v e. e; ranked = λ h. h }
+grown-none bound s = record { size = refl; lines = refl; kept = λ v e. e; ranked = λ h. h }
 
 grown-more : (bound : ℕ) (s t r : Marks) → Grown bound s t → Grown bound t r → Grown bound s r
-grown-more bound s t r a b = record { size = b .size ∙ a .size; kept = λ v e. b .kept v (a .kept v e); ranked = λ h. b .ranked (a .ranked h) }
+grown-more bound s t r a b = record { size = b .size ∙ a .size; lines = b .lines ∙ a .lines; kept = λ v e. b .kept v (a .kept v e); ranked = λ h. b .ranked (a .ranked h) }
 
 -- What is at w after a store at v: the stored value, or what was there.
 pub stored : {A : Type 0} (P : A → Type 0) (l : List A) (v w : ℕ) (x d : A) → P x → P (getD l w d) → P (getD (set l v x) w d)
@@ -44,6 +45,7 @@ take-to-grown round p v bound s h = go (eqb (getD (s .ranks) p 0) 0) (getD (s .m
     go true false =
         record {
           size = length-set (s .marked) v true;
+          lines = length-set (s .ranks) p round;
           kept = λ w e. stored (λ (x : Bool). x ≡ true) (s .marked) v w true false refl e;
           ranked = λ below q. stored (λ (x : ℕ). x ≤ bound) (s .ranks) p q round 0 h (below q);
         }

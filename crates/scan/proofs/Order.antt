@@ -186,3 +186,10 @@ unfolding oneRound allScanned scanNext scanAs
 round-ranked n lines round start ranks h =
     upTo-keeps (λ (s : Scanning). (p : ℕ) → getD (s .ranks) p 0 ≤ round) (λ x. scanNext n lines round) (roundStart n start ranks) h
     (λ x s below. scan-grown lines round (nextStation n (s .marked) (s .scanned)) round (marks (s .ranks) (set (s .marked) (nextStation n (s .marked) (s .scanned)) true)) (omega arith) .ranked below) n
+
+-- THEOREM. A round has a rank for each line, if there was one.
+pub round-size : (n : ℕ) (lines : List ℕ) (round start : ℕ) (ranks : List ℕ) → length (oneRound n lines round start ranks .ranks) ≡ length ranks
+unfolding oneRound allScanned scanNext scanAs
+round-size n lines round start ranks =
+    upTo-keeps (λ (s : Scanning). length (s .ranks) ≡ length ranks) (λ x. scanNext n lines round) (roundStart n start ranks) refl
+    (λ x s e. scan-grown lines round (nextStation n (s .marked) (s .scanned)) round (marks (s .ranks) (set (s .marked) (nextStation n (s .marked) (s .scanned)) true)) (omega arith) .lines ∙ e) n
