@@ -1,3 +1,4 @@
 pub mod Rounds
 pub mod Room
 pub mod Plans
+pub mod Determined
