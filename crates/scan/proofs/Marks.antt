@@ -1,6 +1,6 @@
 -- A scan only adds marks, and gives lines no rank but its round's.
 -- Assumes nothing.
-use Prim.Native.Nat.{ℕ, _/_, _<_, _≤_}
+use Prim.Native.Nat.{ℕ, _<_, _≤_}
 use mathlib.Core.Path.{_≡_, refl, _∙_}
 use mathlib.Core.Bool.{Bool, true, false}
 use mathlib.Core.List.{List}
@@ -64,4 +64,4 @@ pub scan-grown : (lines : List ℕ) (round u bound : ℕ) (s : Marks) → round 
 unfolding scanStation
 scan-grown lines round u bound s h =
     upTo-keeps (Grown bound s) (takeLine lines round u) s (grown-none bound s)
-    (λ p t g. grown-more bound s t (takeLine lines round u p t) g (take-line-grown lines round u p bound t h)) (length lines / 2)
+    (λ p t g. grown-more bound s t (takeLine lines round u p t) g (take-line-grown lines round u p bound t h)) _
