@@ -21,6 +21,9 @@ pub struct Level(pub usize);
 // The offset of a byte in a file.
 pub struct Offset(pub usize);
 
+// Where a refusal says the fault is: a line's place, a round, an index or an offset, by the refusal's row.
+pub struct RefusalPlace(pub usize);
+
 // Which line list a refusal speaks of: the only one, or the first or the second of a union.
 pub enum LineList {
     Only,
@@ -140,30 +143,30 @@ pub fn number_of(refusal: Refusal) -> u8
     }
 }
 
-// The place of a refusal, as a bare number for those who write it out.
-pub fn place_of(refusal: Refusal) -> usize
-    ensures place { λ r. ⌜ r ≡ placeOf refusal ⌝ }
+// The place of a refusal, for those who write it out beside its number.
+pub fn place_of(refusal: Refusal) -> RefusalPlace
+    ensures place { λ r. ⌜ r .0 ≡ placeOf refusal ⌝ }
 {
     match refusal {
-        Refusal::StationCount => 0,
-        Refusal::LineCount(_) => 0,
-        Refusal::LevelRange => 0,
-        Refusal::StartCount => 0,
-        Refusal::Room => 0,
-        Refusal::EndOutside(_, place) => place.0 as usize,
-        Refusal::EndsEqual(_, place) => place.0 as usize,
-        Refusal::StoodEarlier(_, place) => place.0 as usize,
-        Refusal::StartOutside(round) => round.0 as usize,
-        Refusal::TakenAway(position) => position.0 as usize,
-        Refusal::AskedStation(asked) => asked_number(asked),
-        Refusal::WeakLevel => 0,
-        Refusal::UnionCount => 0,
-        Refusal::Mark(offset) => offset.0,
-        Refusal::FileEnds(offset) => offset.0,
-        Refusal::EndCount(offset) => offset.0,
-        Refusal::BytesFollow(offset) => offset.0,
-        Refusal::FileLineCount(offset) => offset.0,
-        Refusal::FileStartCount(offset) => offset.0,
+        Refusal::StationCount => RefusalPlace(0),
+        Refusal::LineCount(_) => RefusalPlace(0),
+        Refusal::LevelRange => RefusalPlace(0),
+        Refusal::StartCount => RefusalPlace(0),
+        Refusal::Room => RefusalPlace(0),
+        Refusal::EndOutside(_, place) => RefusalPlace(place.0 as usize),
+        Refusal::EndsEqual(_, place) => RefusalPlace(place.0 as usize),
+        Refusal::StoodEarlier(_, place) => RefusalPlace(place.0 as usize),
+        Refusal::StartOutside(round) => RefusalPlace(round.0 as usize),
+        Refusal::TakenAway(position) => RefusalPlace(position.0 as usize),
+        Refusal::AskedStation(asked) => RefusalPlace(asked_number(asked)),
+        Refusal::WeakLevel => RefusalPlace(0),
+        Refusal::UnionCount => RefusalPlace(0),
+        Refusal::Mark(offset) => RefusalPlace(offset.0),
+        Refusal::FileEnds(offset) => RefusalPlace(offset.0),
+        Refusal::EndCount(offset) => RefusalPlace(offset.0),
+        Refusal::BytesFollow(offset) => RefusalPlace(offset.0),
+        Refusal::FileLineCount(offset) => RefusalPlace(offset.0),
+        Refusal::FileStartCount(offset) => RefusalPlace(offset.0),
     }
 }
 

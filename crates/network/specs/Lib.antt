@@ -1,4 +1,5 @@
 pub mod Lines
+pub mod Chains
 pub mod Judging
 pub mod Orders
 pub mod Faults

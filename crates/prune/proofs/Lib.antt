@@ -1,4 +1,3 @@
 pub mod Rounds
-pub mod Room
 pub mod Plans
 pub mod Determined

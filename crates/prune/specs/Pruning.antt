@@ -1,14 +1,12 @@
 -- Pruning: k rounds of the scan rule, what is kept, and what is left in the lent buffers.
 -- Assumes nothing.
-use Prim.Native.Nat.{ℕ, _+_, _*_, _/_}
-use mathlib.Core.Bool.{Bool, _||_}
+use Prim.Native.Nat.{ℕ, _+_, _/_}
 use mathlib.Core.List.{List, [], _++_}
 use lib.ListN.{length, getD, replicate}
-use lib.Dec.{ltb}
 use Rattle.laws.specs.Fold.{upTo}
 use Rattle.kinds.specs.Answers.{Answer, Answer.given, _andThen_}
 use Rattle.kept.specs.Kept.{keptCount}
-use Rattle.request.specs.Judging.{requestJudged}
+use Rattle.request.specs.Judging.{planShort, requestJudged}
 use Rattle.scan.specs.Rule.{oneRound}
 
 -- What the rounds make: the lines' ranks, and the rounds' orders, n places to a round.
@@ -33,11 +31,7 @@ allRounds n k lines starts ranks = upTo (nextRound n lines starts) (rounds ranks
 unfoldable pub pruned : ℕ → ℕ → List ℕ → List ℕ → Rounds
 pruned n k lines starts = allRounds n k lines starts (replicate (length lines / 2) 0)
 
--- Whether a lent buffer is shorter than needed: m bytes for the ranks, k times n numbers for the orders.
-unfoldable pub pruneShort : ℕ → ℕ → List ℕ → (ranks orders : ℕ) → Bool
-pruneShort n k lines ranks orders = ltb ranks (length lines / 2) || ltb orders (k * n)
-
 -- What pruning answers, given the lengths of the two buffers: the first refusal, or the count of kept lines.
 unfoldable pub pruneAnswer : ℕ → ℕ → List ℕ → List ℕ → (ranks orders : ℕ) → Answer ℕ
 pruneAnswer n k lines starts ranks orders =
-    requestJudged n k lines starts (pruneShort n k lines ranks orders) andThen given (keptCount (pruned n k lines starts .ranks))
+    requestJudged n k lines starts (planShort n k lines ranks orders) andThen given (keptCount (pruned n k lines starts .ranks))

@@ -5,6 +5,7 @@ use kinds::Level;
 use kinds::Refusal;
 use kinds::Round;
 use kinds::Station;
+use request::is_plan_short;
 use request::judge_request;
 use scan::scan_round;
 ghost use mathlib.Core.Path.{_≡_};
@@ -13,7 +14,7 @@ ghost use lib.ListN.{length, getD, replicate};
 ghost use Rattle.kept.specs.Kept.{keptCount, after};
 ghost use Rattle.scan.specs.Rule.{Laid, Room};
 ghost use Rattle.prune.specs.Answers.{prunedAnswer};
-ghost use Rattle.prune.specs.Pruning.{rounds, allRounds, pruned, pruneShort, pruneAnswer};
+ghost use Rattle.prune.specs.Pruning.{rounds, allRounds, pruned, pruneAnswer};
 ghost use Rattle.prune.specs.Sizes.{InOrder};
 
 // What pruning says: how many lines are kept, or why the input is refused.
@@ -64,19 +65,6 @@ fn all_rounds(
         );
         at = end;
     }
-}
-
-// Whether a lent buffer is shorter than needed. Dividing instead of multiplying keeps any level and n from wrapping.
-fn is_short(n: usize, level: Level, lines: &[u16], ranks: usize, orders: usize) -> bool
-    ensures short { λ r. ⌜ r ≡ pruneShort n (level .0) (now (lines .entry)) ranks orders ⌝ }
-{
-    if ranks < lines.len() / 2 {
-        return true;
-    }
-    if n == 0 {
-        return false;
-    }
-    orders / n < level.0
 }
 
 // Every line is put in play, the rounds take theirs, and what they took is counted.
@@ -139,7 +127,7 @@ pub fn prune(
     ensures ranks { λ r. ⌜ now (ranks .exit) ≡ after (prunedAnswer r) (pruned n (level .0) (now (lines .entry)) (now (starts .entry)) .ranks) (now (ranks .entry)) ⌝ }
     ensures orders { λ r. ⌜ now (orders .exit) ≡ after (prunedAnswer r) (pruned n (level .0) (now (lines .entry)) (now (starts .entry)) .orders) (now (orders .entry)) ⌝ }
 {
-    let short = is_short(n, level, lines, ranks.len(), orders.len());
+    let short = is_plan_short(n, level, lines, ranks.len(), orders.len());
     let judged = judge_request(n, level, lines, starts, short);
     if let Judged::Refused(refusal) = judged {
         return Pruned::Refused(refusal);

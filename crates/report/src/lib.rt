@@ -2,6 +2,7 @@
 use kinds::Level;
 use kinds::Place;
 use kinds::Refusal;
+use kinds::RefusalPlace;
 use kinds::Round;
 use kinds::Station;
 use kinds::number_of;
@@ -138,11 +139,11 @@ fn put_refused(text: &mut [u8], at: usize, number: usize) -> usize
 }
 
 // Writes the place of a refusal.
-fn put_at(text: &mut [u8], at: usize, place: usize) -> usize
-    requires { ⌜ at + length (atText place) ≤ length (now text) ⌝ }
-    ensures put { λ r. ⌜ Puts (now (text .entry)) at (atText place) (now (text .exit)) r ⌝ }
+fn put_at(text: &mut [u8], at: usize, place: RefusalPlace) -> usize
+    requires { ⌜ at + length (atText (place .0)) ≤ length (now text) ⌝ }
+    ensures put { λ r. ⌜ Puts (now (text .entry)) at (atText (place .0)) (now (text .exit)) r ⌝ }
 {
-    put_field(text, at, b" at ", place)
+    put_field(text, at, b" at ", place.0)
 }
 
 // Ends a row.
@@ -228,9 +229,9 @@ fn is_short(lines: &[u16], room: usize) -> bool
 }
 
 // Writes the row of a refusal at the front.
-fn put_refusal(text: &mut [u8], number: usize, place: usize) -> usize
+fn put_refusal(text: &mut [u8], number: usize, place: RefusalPlace) -> usize
     requires { ⌜ 64 ≤ length (now text) ⌝ }
-    ensures put { λ r. ⌜ Puts (now (text .entry)) 0 (refusedText number place) (now (text .exit)) r ⌝ }
+    ensures put { λ r. ⌜ Puts (now (text .entry)) 0 (refusedText number (place .0)) (now (text .exit)) r ⌝ }
 {
     let refused = put_refused(text, 0, number);
     let placed = put_at(text, refused, place);

@@ -1,6 +1,6 @@
 -- What an owner asks for: a network, a level k and a starting station for each round; and its refusals in order.
 -- Assumes nothing.
-use Prim.Native.Nat.{ℕ, _+_}
+use Prim.Native.Nat.{ℕ, _+_, _*_, _/_}
 use mathlib.Core.Bool.{Bool, not, _||_}
 use mathlib.Core.List.{List}
 use lib.ListN.{length, getD}
@@ -20,6 +20,10 @@ startCountJudged k starts = refuseIf (not (eqb (length starts) k)) 4 0 0
 -- 5: a lent buffer is shorter than needed.
 unfoldable pub roomJudged : Bool → Answer (Unit {0})
 roomJudged short = refuseIf short 5 0 0
+
+-- Whether the room for a plan is too short: m bytes for the ranks, k times n numbers for the orders.
+unfoldable pub planShort : ℕ → ℕ → List ℕ → (ranks orders : ℕ) → Bool
+planShort n k lines ranks orders = ltb ranks (length lines / 2) || ltb orders (k * n)
 
 -- 9: the starting station at an index is n or more; the place is its round, counted from 1.
 unfoldable pub startJudged : ℕ → List ℕ → ℕ → Answer (Unit {0})

@@ -13,7 +13,7 @@ ghost use mathlib.Core.Path.{_≡_};
 ghost use Prim.Native.Nat.{_<_, _≤_};
 ghost use lib.ListN.{length};
 ghost use Rattle.kinds.specs.Answers.{judgedAnswer};
-ghost use Rattle.request.specs.Judging.{levelJudged, startCountJudged, roomJudged, startJudged, startsJudged, sizesJudged, requestJudged};
+ghost use Rattle.request.specs.Judging.{levelJudged, startCountJudged, roomJudged, planShort, startJudged, startsJudged, sizesJudged, requestJudged};
 
 // Refusal 3: k is not 1 to 16.
 pub fn judge_level(level: Level) -> Judged
@@ -47,6 +47,19 @@ pub fn judge_room(short: bool) -> Judged
         return Judged::Refused(Refusal::Room);
     }
     Judged::Taken
+}
+
+// Whether the room for a plan, ranks and orders, is too short. Dividing instead of multiplying keeps any level and n from wrapping.
+pub fn is_plan_short(n: usize, level: Level, lines: &[u16], ranks: usize, orders: usize) -> bool
+    ensures short { λ r. ⌜ r ≡ planShort n (level .0) (now (lines .entry)) ranks orders ⌝ }
+{
+    if ranks < lines.len() / 2 {
+        return true;
+    }
+    if n == 0 {
+        return false;
+    }
+    orders / n < level.0
 }
 
 // Refusal 9: the starting station at a position is n or more. Its round is one more than the position.

@@ -21,7 +21,7 @@ fn say_refusal(refusal: Refusal, place: &mut usize, list: &mut u8) -> u8
     ensures place { λ _. ⌜ now (place .exit) ≡ placeOf refusal ⌝ }
     ensures list { λ _. ⌜ now (list .exit) ≡ listOf refusal ⌝ }
 {
-    *place = place_of(refusal);
+    *place = place_of(refusal).0;
     *list = list_of(refusal);
     number_of(refusal)
 }

@@ -22,32 +22,32 @@ enum-told-5 c = search needs
 enum-known-refusal : tie.Need-enum-known-refusal
 enum-known-refusal c = search needs
 
-cast-result : tie.Need-cast-result
-cast-result c = search needs
+cast-t15 : tie.Need-cast-t15
+cast-t15 c = search needs
 
 enum-known-refusal-2 : tie.Need-enum-known-refusal-2
 enum-known-refusal-2 c = search needs
 
-cast-result-2 : tie.Need-cast-result-2
-cast-result-2 c = search needs
+cast-t16 : tie.Need-cast-t16
+cast-t16 c = search needs
 
 enum-known-refusal-3 : tie.Need-enum-known-refusal-3
 enum-known-refusal-3 c = search needs
 
-cast-result-3 : tie.Need-cast-result-3
-cast-result-3 c = search needs
+cast-t17 : tie.Need-cast-t17
+cast-t17 c = search needs
 
 enum-known-refusal-4 : tie.Need-enum-known-refusal-4
 enum-known-refusal-4 c = search needs
 
-cast-result-4 : tie.Need-cast-result-4
-cast-result-4 c = search needs
+cast-t18 : tie.Need-cast-t18
+cast-t18 c = search needs
 
 enum-known-refusal-5 : tie.Need-enum-known-refusal-5
 enum-known-refusal-5 c = search needs
 
-cast-result-5 : tie.Need-cast-result-5
-cast-result-5 c = search needs
+cast-t19 : tie.Need-cast-t19
+cast-t19 c = search needs
 
 enum-known-refusal-6 : tie.Need-enum-known-refusal-6
 enum-known-refusal-6 c = search needs
@@ -146,15 +146,15 @@ place-of-spec =
     enum-told-4
     enum-told-5
     enum-known-refusal
-    cast-result
+    cast-t15
     enum-known-refusal-2
-    cast-result-2
+    cast-t16
     enum-known-refusal-3
-    cast-result-3
+    cast-t17
     enum-known-refusal-4
-    cast-result-4
+    cast-t18
     enum-known-refusal-5
-    cast-result-5
+    cast-t19
     enum-known-refusal-6
     asked-number-requires
     enum-told-6

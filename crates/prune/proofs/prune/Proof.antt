@@ -10,30 +10,30 @@ use lib.Seq.{length-front, length-take-le}
 use lib.ListN.{length}
 use Rattle.laws.specs.Count.{count}
 use Rattle.kinds.specs.Answers.{Answer.given, taken, refusalAnswer}
-use Rattle.request.specs.Judging.{requestJudged}
+use Rattle.request.specs.Judging.{planShort, requestJudged}
 use Rattle.request.specs.Requests.{Request}
 use Rattle.request.proofs.Judging.{request-good}
 use Rattle.kept.specs.Kept.{after}
-use Rattle.prune.specs.Pruning.{Rounds, pruneShort, pruneAnswer}
+use Rattle.prune.specs.Pruning.{Rounds, pruneAnswer}
 use Rattle.kept.proofs.After.{written}
-use Rattle.prune.proofs.Room.{room-enough}
+use Rattle.request.proofs.Room.{room-enough}
 use Rattle.prune.proofs.prune.Statement.{statement}
 use Rattle.prune.proofs.prune.Tie as tie
 
 in-order : (c : tie.After-enum-told)
     → (requestJudged (c .before .before .before .before .before .before .before .before .args .n) (c .before .before .before .before .before .before .before .before .args .level .0) (c .before .before .before .before .before .before .before .before .args .lines .now) (c .before .before .before .before .before .before .before .before .args .starts .now)
-    (pruneShort (c .before .before .before .before .before .before .before .before .args .n) (c .before .before .before .before .before .before .before .before .args .level .0) (c .before .before .before .before .before .before .before .before .args .lines .now) (length (c .before .before .before .before .before .before .before .before .args .ranks .now)) (length (c .before .before .before .before .before .before .before .before .args .orders .now))) ≡ taken)
+    (planShort (c .before .before .before .before .before .before .before .before .args .n) (c .before .before .before .before .before .before .before .before .args .level .0) (c .before .before .before .before .before .before .before .before .args .lines .now) (length (c .before .before .before .before .before .before .before .before .args .ranks .now)) (length (c .before .before .before .before .before .before .before .before .args .orders .now))) ≡ taken)
     × Request (c .before .before .before .before .before .before .before .before .args .n) (c .before .before .before .before .before .before .before .before .args .level .0) (c .before .before .before .before .before .before .before .before .args .lines .now) (c .before .before .before .before .before .before .before .before .args .starts .now)
-    (pruneShort (c .before .before .before .before .before .before .before .before .args .n) (c .before .before .before .before .before .before .before .before .args .level .0) (c .before .before .before .before .before .before .before .before .args .lines .now) (length (c .before .before .before .before .before .before .before .before .args .ranks .now)) (length (c .before .before .before .before .before .before .before .before .args .orders .now)))
+    (planShort (c .before .before .before .before .before .before .before .before .args .n) (c .before .before .before .before .before .before .before .before .args .level .0) (c .before .before .before .before .before .before .before .before .args .lines .now) (length (c .before .before .before .before .before .before .before .before .args .ranks .now)) (length (c .before .before .before .before .before .before .before .before .args .orders .now)))
 in-order c =
     let a = c .before .before .before .before .before .before .before .before .args in
     let j = c .before .before .judge-request in
-    let short = c .before .before .before .is-short .ensures in
-    let e : requestJudged (a .n) (a .level .0) (a .lines .now) (a .starts .now) (pruneShort (a .n) (a .level .0) (a .lines .now) (length (a .ranks .now)) (length (a .orders .now))) ≡ taken = rw (← short) (sym (j .ensures) ∙ rw (c .enum-told .given .1)) in
-    (e, request-good (a .n) (a .level .0) (a .lines .now) (a .starts .now) (pruneShort (a .n) (a .level .0) (a .lines .now) (length (a .ranks .now)) (length (a .orders .now))) (rw e))
+    let short = c .before .before .before .is-plan-short .ensures in
+    let e : requestJudged (a .n) (a .level .0) (a .lines .now) (a .starts .now) (planShort (a .n) (a .level .0) (a .lines .now) (length (a .ranks .now)) (length (a .orders .now))) ≡ taken = rw (← short) (sym (j .ensures) ∙ rw (c .enum-told .given .1)) in
+    (e, request-good (a .n) (a .level .0) (a .lines .now) (a .starts .now) (planShort (a .n) (a .level .0) (a .lines .now) (length (a .ranks .now)) (length (a .orders .now))) (rw e))
 
-is-short-requires : tie.Need-is-short-requires
-is-short-requires c κs = search needs
+is-plan-short-requires : tie.Need-is-plan-short-requires
+is-plan-short-requires c κs = search needs
 
 judge-request-requires : tie.Need-judge-request-requires
 judge-request-requires c κs = search needs
@@ -46,7 +46,7 @@ unfolding pruneAnswer after
 returns c =
     let a = c .before .before .before .before .before .before .before .before .before .args in
     let j = c .before .before .before .judge-request in
-    let e : requestJudged (a .n) (a .level .0) (a .lines .now) (a .starts .now) (pruneShort (a .n) (a .level .0) (a .lines .now) (length (a .ranks .now)) (length (a .orders .now))) ≡ refusalAnswer (c .before .judged .given .0 .0) = rw (← (c .before .before .before .before .is-short .ensures)) (sym (j .ensures) ∙ rw (c .before .judged .given .1)) in
+    let e : requestJudged (a .n) (a .level .0) (a .lines .now) (a .starts .now) (planShort (a .n) (a .level .0) (a .lines .now) (length (a .ranks .now)) (length (a .orders .now))) ≡ refusalAnswer (c .before .judged .given .0 .0) = rw (← (c .before .before .before .before .is-plan-short .ensures)) (sym (j .ensures) ∙ rw (c .before .judged .given .1)) in
     (rw e, (refl, refl))
 
 enum-told : tie.Need-enum-told
@@ -112,7 +112,7 @@ pub prune-spec : {M : Type 1} → statement M
 prune-spec =
     tie.close
     (tie.spec
-    is-short-requires
+    is-plan-short-requires
     judge-request-requires
     enum-known-judged
     returns

@@ -16,12 +16,12 @@ put-refused-requires c κs =
 put-at-requires : tie.Need-put-at-requires
 put-at-requires c κs =
     let a = c .before .before .before .before .before .before .args in
-    omega (arith, c .before .before .before .before .before .before .pre, wide-most (a .number) (search needs), wide-most (a .place) (search needs), c .before .before .before .put-refused .ensures .ends, puts-length (c .before .before .before .put-refused .ensures))
+    omega (arith, c .before .before .before .before .before .before .pre, wide-most (a .number) (search needs), wide-most (a .place .0) (search needs), c .before .before .before .put-refused .ensures .ends, puts-length (c .before .before .before .put-refused .ensures))
 
 put-newline-requires : tie.Need-put-newline-requires
 put-newline-requires c κs =
     let a = c .before .before .before .before .before .before .before .before .before .before .args in
-    omega (arith, c .before .before .before .before .before .before .before .before .before .before .pre, wide-most (a .number) (search needs), wide-most (a .place) (search needs), c .before .before .before .before .before .before .before .put-refused .ensures .ends, puts-length (c .before .before .before .before .before .before .before .put-refused .ensures), c .before .before .before .put-at .ensures .ends, puts-length (c .before .before .before .put-at .ensures))
+    omega (arith, c .before .before .before .before .before .before .before .before .before .before .pre, wide-most (a .number) (search needs), wide-most (a .place .0) (search needs), c .before .before .before .before .before .before .before .put-refused .ensures .ends, puts-length (c .before .before .before .before .before .before .before .put-refused .ensures), c .before .before .before .put-at .ensures .ends, puts-length (c .before .before .before .put-at .ensures))
 
 same-length : tie.Need-same-length
 same-length c = search needs

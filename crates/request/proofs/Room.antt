@@ -8,10 +8,10 @@ use borrow.Author.Tests.{ltb-false}
 use lib.Dec.{ltb}
 use lib.ListN.{length}
 use Rattle.network.proofs.Judging.{neither}
-use Rattle.prune.specs.Pruning.{pruneShort}
+use Rattle.request.specs.Judging.{planShort}
 
-pub room-enough : (n k : ℕ) (lines : List ℕ) (ranks orders : ℕ) → pruneShort n k lines ranks orders ≡ false → (length lines / 2 ≤ ranks) × (k * n ≤ orders)
-unfolding pruneShort
+pub room-enough : (n k : ℕ) (lines : List ℕ) (ranks orders : ℕ) → planShort n k lines ranks orders ≡ false → (length lines / 2 ≤ ranks) × (k * n ≤ orders)
+unfolding planShort
 room-enough n k lines ranks orders e =
     let (x, y) = neither (ltb ranks (length lines / 2)) (ltb orders (k * n)) e in
     (ltb-false ranks (length lines / 2) x, ltb-false orders (k * n) y)

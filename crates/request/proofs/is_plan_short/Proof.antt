@@ -1,4 +1,4 @@
--- `prune::is_short` meets its contract. Dividing the room by n asks what multiplying k by n would. Assumes nothing.
+-- `request::is_plan_short` meets its contract. Dividing the room by n asks what multiplying k by n would. Assumes nothing.
 -- dividing asks what multiplying would
 use Prim.Native.Nat.{ℕ, _*_, _/_, _<_, _≤_}
 use mathlib.Core.Path.{_≡_, sym, _∙_}
@@ -8,9 +8,9 @@ use native.Mathlib.Nat.{mul-zero, div-lt-iff-lt-mul}
 use borrow.Author.Tests.{lt-ltb, le-ltb}
 use borrow.Author.Needs.{needs}
 use lib.Dec.{ltb}
-use Rattle.prune.specs.Pruning.{pruneShort}
-use Rattle.prune.proofs.is_short.Statement.{statement}
-use Rattle.prune.proofs.is_short.Tie as tie
+use Rattle.request.specs.Judging.{planShort}
+use Rattle.request.proofs.is_plan_short.Statement.{statement}
+use Rattle.request.proofs.is_plan_short.Tie as tie
 
 div-test : (orders n k : ℕ) → 0 < n → ltb (orders / n) k ≡ ltb orders (k * n)
 div-test orders n k h = go (decLt orders (k * n))
@@ -23,22 +23,22 @@ div-test orders n k h = go (decLt orders (k * n))
         not-lt f = omega arith
 
 returns : tie.Need-returns
-unfolding pruneShort
+unfolding planShort
 returns c = rw (lt-ltb _ _ (c .if1 .taken))
 
 returns-2 : tie.Need-returns-2
-unfolding pruneShort
+unfolding planShort
 returns-2 c = rw (le-ltb _ _ (c .before .if1 .left), c .if2 .taken, mul-zero (c .before .before .args .level .0), le-ltb (c .before .before .args .orders) 0 (omega arith))
 
 div-result : tie.Need-div-result
 div-result c = search needs
 
 returns-3 : tie.Need-returns-3
-unfolding pruneShort
+unfolding planShort
 returns-3 c =
     let a = c .before .before .before .args in
     let positive : 0 < a .n = omega (arith, c .before .if2 .left) in
     rw (le-ltb _ _ (c .before .before .if1 .left)) (div-test (a .orders) (a .n) (a .level .0) positive)
 
-pub is-short-spec : {M : Type 1} → statement M
-is-short-spec = tie.close (tie.spec returns returns-2 div-result returns-3)
+pub is-plan-short-spec : {M : Type 1} → statement M
+is-plan-short-spec = tie.close (tie.spec returns returns-2 div-result returns-3)

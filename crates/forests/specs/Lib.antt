@@ -1,0 +1,4 @@
+pub mod Verdicts
+pub mod Checking
+pub mod Published
+pub mod Plans
