@@ -89,9 +89,9 @@ fn lowest_fresh(n: usize, marked: &[bool]) -> Station
     requires { ⌜ (0 < n) × (n ≤ 1024) × (length (now marked) ≡ n) ⌝ }
     ensures lowest { λ r. ⌜ r .0 ≡ lowest (fresh (now (marked .entry))) n 0 ⌝ }
 {
-    for v in 0..n {
-        if !marked[v] {
-            return Station(v as u16);
+    for w in 0..n {
+        if !marked[w] {
+            return Station(w as u16);
         }
     }
     Station(0)

@@ -36,7 +36,7 @@ abbrev μ-loop : tie.MeasureT-loop
 part-in : (c : tie.In-loop Inv-loop μ-loop) → c .before .loop .at + c .before .before .before .before .before .before .before .before .args .n ≤ length (c .before .loop .orders)
 part-in c =
     let s = c .before .before .before .before .before .before .before .before in
-    omega (arith, part-fits (c .before .loop .i) (s .args .level .0) (s .args .n) (c .loop-test .taken), s .pre .2 .room, c .before .loop .inv .3)
+    omega (arith, part-fits (c .before .loop .i) (s .args .level .0) (s .args .n) (omega (arith, c .loop-test .taken)), s .pre .2 .room, c .before .loop .inv .3)
 
 loop-holds : tie.Need-loop-holds Inv-loop μ-loop
 unfolding upTo

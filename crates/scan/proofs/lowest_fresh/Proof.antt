@@ -1,4 +1,4 @@
--- `scan::lowest_fresh` meets its contract. The loop's invariant: what the search finds from v on is the answer. The measure is n - v.
+-- `scan::lowest_fresh` meets its contract. The loop's invariant: what the search finds from w on is the answer. The measure is n - w.
 -- Assumes nothing.
 use Prim.Native.Nat.{_-_, _≤_}
 use mathlib.Core.Path.{_≡_}
@@ -12,10 +12,10 @@ use Rattle.scan.proofs.lowest_fresh.Statement.{statement}
 use Rattle.scan.proofs.lowest_fresh.Tie as tie
 
 abbrev Inv-loop : tie.InvT-loop
-Inv-loop n marked v₀ v = (v ≤ n) × (lowest (fresh marked) n 0 ≡ firstFrom (fresh marked) (λ x. x) 0 v (n - v))
+Inv-loop n marked w₀ w = (w ≤ n) × (lowest (fresh marked) n 0 ≡ firstFrom (fresh marked) (λ x. x) 0 w (n - w))
 
 abbrev μ-loop : tie.MeasureT-loop
-μ-loop n marked v₀ v = n - v
+μ-loop n marked w₀ w = n - w
 
 loop-holds : tie.Need-loop-holds Inv-loop μ-loop
 loop-holds c = (search needs, first-start _ _ _ _)
@@ -31,11 +31,11 @@ unfolding fresh
 returns c =
     let l = c .before .before .before in
     let a = l .before .args in
-    let e : fresh (a .marked .now) (l .loop .v) ≡ true = simp (c .if1 .taken) in
-    cc (first-here (fresh (a .marked .now)) (λ x. x) 0 (a .n) (l .loop .v) (omega arith) e)
+    let e : fresh (a .marked .now) (l .loop .w) ≡ true = simp (c .if1 .taken) in
+    cc (first-here (fresh (a .marked .now)) (λ x. x) 0 (a .n) (l .loop .w) (omega arith) e)
 
-add-v : tie.Need-add-v Inv-loop μ-loop
-add-v c = search needs
+add-w : tie.Need-add-w Inv-loop μ-loop
+add-w c = search needs
 
 loop-less : tie.Need-loop-less Inv-loop μ-loop
 loop-less c = search needs
@@ -45,13 +45,13 @@ unfolding fresh
 loop-again c =
     let l = c .before .before .before in
     let a = l .before .args in
-    let e : fresh (a .marked .now) (l .loop .v) ≡ false = simp (c .if1 .left) in
-    (omega arith, cc (first-next (fresh (a .marked .now)) (λ x. x) 0 (a .n) (l .loop .v) (omega arith) e))
+    let e : fresh (a .marked .now) (l .loop .w) ≡ false = simp (c .if1 .left) in
+    (omega arith, cc (first-next (fresh (a .marked .now)) (λ x. x) 0 (a .n) (l .loop .w) (omega arith) e))
 
 returns-2 : tie.Need-returns-2 Inv-loop μ-loop
 returns-2 c =
     let a = c .before .before .args in
-    cc (first-none (fresh (a .marked .now)) (λ x. x) 0 (a .n) (c .before .loop .v) (omega arith))
+    cc (first-none (fresh (a .marked .now)) (λ x. x) 0 (a .n) (c .before .loop .w) (omega arith))
 
 pub lowest-fresh-spec : {M : Type 1} → statement M
 lowest-fresh-spec =
@@ -63,7 +63,7 @@ lowest-fresh-spec =
     shared-slice-read-if1
     cast-t7
     returns
-    add-v
+    add-w
     loop-less
     loop-again
     returns-2)
