@@ -4,14 +4,14 @@ use Prim.Native.Nat.{ℕ, zero, suc, _+_, _-_, _<_, _≤_}
 use mathlib.Core.Path.{_≡_, refl, sym, ap, _∙_}
 use mathlib.Core.Bool.{Bool, true, false, not, true≢false}
 use mathlib.Core.List.{List, [], _∷_, _++_}
-use mathlib.Core.Logic.{_≢_, _⊎_, _⊎_.inl, _⊎_.inr}
+use mathlib.Core.Logic.{_⊎_, _⊎_.inl, _⊎_.inr}
 use native.Mathlib.Nat.{add-zero, add-suc}
 use native.Mathlib.Omega.{arith}
 use lib.ListN.{length, getD, List·getD-append}
 use lib.Seq.{getD-append-seam}
 use Rattle.laws.specs.Fold.{pick, upTo, lowest}
 use Rattle.laws.proofs.Fold.{FoundAt, FoundNone, first-cases, some-any}
-use Rattle.scan.specs.Rule.{Scanning, ready, fresh, nextStation, scanAs, scanNext, roundStart, allScanned, oneRound}
+use Rattle.scan.specs.Rule.{Scanning, ready, nextStation, scanAs, scanNext, roundStart, allScanned, oneRound}
 use Rattle.scan.proofs.Order.{Halfway, halfway}
 use Rattle.scan.proofs.Takes.{not-so}
 

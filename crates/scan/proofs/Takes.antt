@@ -129,7 +129,8 @@ module _ (n : ℕ) (lines : List ℕ) (simple : Simple (network n lines)) (round
         go (inl f) = true≢false (sym f ∙ e)
         go (inr k) = let same = simple .once (k .line) m u v (k .leads .place) h (k .leads .joins) (l .joins) in omega arith
 
-    led-more : {v : ℕ} → (getD (s .marked) v false ≡ true) ⊎ Led n lines (s .ranks) m u v → (getD (s .marked) v false ≡ true) ⊎ Led n lines (s .ranks) (suc m) u v
+    led-more : {v : ℕ} → (getD (s .marked) v false ≡ true) ⊎ Led n lines (s .ranks) m u v
+        → (getD (s .marked) v false ≡ true) ⊎ Led n lines (s .ranks) (suc m) u v
     led-more (inl f) = inl f
     led-more (inr k) = inr (record { line = k .line; below = omega arith; leads = k .leads })
 
