@@ -1,4 +1,5 @@
 pub mod Rounds
 pub mod Room
 pub mod Plans
+pub mod RoundsFirst
 pub mod Determined
