@@ -175,13 +175,11 @@ module _ (n : ℕ) (lines before order : List ℕ) (simple : Simple (network n l
           takes = λ p i v k l later first. takes p i v k l later first (ℕ-discrete i t);
         }
       where
-        old : (p : ℕ) → getD before p 0 ≢ 0 → Only p
-            → getD (Now .ranks) p 0 ≡ getD before p 0
+        old : (p : ℕ) → getD before p 0 ≢ 0 → Only p → getD (Now .ranks) p 0 ≡ getD before p 0
         old p b (inl e) = e ∙ R .old p b
         old p b (inr k) = absurd (b (was-in-play (k .leads) .in-play))
 
-        new : (p : ℕ) → getD before p 0 ≡ 0 → Only p
-            → (getD (Now .ranks) p 0 ≡ 0) ⊎ (getD (Now .ranks) p 0 ≡ round)
+        new : (p : ℕ) → getD before p 0 ≡ 0 → Only p → (getD (Now .ranks) p 0 ≡ 0) ⊎ (getD (Now .ranks) p 0 ≡ round)
         new p b (inl e) = rw e (R .new p b)
         new p b (inr k) = inr (k .ranked)
 
@@ -195,8 +193,7 @@ module _ (n : ℕ) (lines before order : List ℕ) (simple : Simple (network n l
             go (by-line k) = by-line (neighbour-more k)
         why v (inr k) = by-line (record { line = k .line; position = t; below = omega arith; leads = leads-turn (was-in-play (k .leads)) })
 
-        taken : (p : ℕ) → getD before p 0 ≡ 0 → getD (Now .ranks) p 0 ≡ round
-            → Only p → TakenAt n lines before order (suc t) p
+        taken : (p : ℕ) → getD before p 0 ≡ 0 → getD (Now .ranks) p 0 ≡ round → Only p → TakenAt n lines before order (suc t) p
         taken p b r (inl e) = taken-more (R .taken p b (sym e ∙ r))
         taken p b r (inr k) =
             record {
@@ -228,8 +225,7 @@ module _ (n : ℕ) (lines before order : List ℕ) (simple : Simple (network n l
             T .grown .kept v (marked-was v (R .near v (record { line = k .line; position = k .position; below = omega (arith, k .below); leads = k .leads })))
 
         -- what was taken stays so
-        still : (p : ℕ) → getD (s .ranks) p 0 ≡ round → Only p
-            → getD (Now .ranks) p 0 ≡ round
+        still : (p : ℕ) → getD (s .ranks) p 0 ≡ round → Only p → getD (Now .ranks) p 0 ≡ round
         still p r (inl e) = e ∙ r
         still p r (inr k) = k .ranked
 
