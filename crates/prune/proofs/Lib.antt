@@ -1,3 +1,4 @@
 pub mod Rounds
 pub mod Plans
+pub mod RoundsFirst
 pub mod Determined

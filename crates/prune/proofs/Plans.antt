@@ -18,10 +18,10 @@ use Rattle.prune.specs.Pruning.{Rounds, rounds, nextRound, allRounds, pr
 
 module _ (n : ℕ) (lines starts : List ℕ) (ranks : List ℕ) where
   -- after k rounds
-  abbrev Done : ℕ → Rounds
+  abbrev pub Done : ℕ → Rounds
   Done k = upTo (nextRound n lines starts) (rounds ranks []) k
 
-  ranked : ((p : ℕ) → getD ranks p 0 ≤ 0) → (k : ℕ) → (p : ℕ) → getD (Done k .ranks) p 0 ≤ k
+  pub ranked : ((p : ℕ) → getD ranks p 0 ≤ 0) → (k : ℕ) → (p : ℕ) → getD (Done k .ranks) p 0 ≤ k
   unfolding upTo nextRound
   ranked none zero p = none p
   ranked none (suc k) p =
@@ -29,7 +29,7 @@ module _ (n : ℕ) (lines starts : List ℕ) (ranks : List ℕ) where
       let r = round-ranked n lines (k + 1) (getD starts k 0) (Done k .ranks) (λ q. omega (arith, below q)) p in
       omega (arith, r)
 
-  sized : (k : ℕ) → length (Done k .ranks) ≡ length ranks
+  pub sized : (k : ℕ) → length (Done k .ranks) ≡ length ranks
   unfolding upTo nextRound
   sized zero = refl
   sized (suc k) = round-size n lines (k + 1) (getD starts k 0) (Done k .ranks) ∙ sized k
@@ -43,17 +43,23 @@ module _ (n : ℕ) (lines starts : List ℕ) (ranks : List ℕ) where
       add-one-mul : (k n : ℕ) → (k + 1) * n ≡ suc k * n
       add-one-mul k n = rw (add-one k)
 
-  -- the part of round i + 1
-  part : (k i : ℕ) → i < k → EachOnce n (take n (drop (i * n) (Done k .orders)))
+  -- the part of round i + 1 is its order
+  pub part-is : (k i : ℕ) → i < k → take n (drop (i * n) (Done k .orders)) ≡ oneRound n lines (i + 1) (getD starts i 0) (Done i .ranks) .order
   unfolding upTo nextRound
-  part zero i h = absurd (omega arith)
-  part (suc k) i h = go (ℕ-discrete i k) (λ l. part k i l)
+  part-is zero i h = absurd (omega arith)
+  part-is (suc k) i h = go (ℕ-discrete i k) (λ l. part-is k i l)
     where
-      good : EachOnce n (oneRound n lines (k + 1) (getD starts k 0) (Done k .ranks) .order)
-      good = round-each-once n lines (k + 1) (getD starts k 0) (Done k .ranks)
+      order : List ℕ
+      order = oneRound n lines (k + 1) (getD starts k 0) (Done k .ranks) .order
 
-      go : Dec (i ≡ k) → (i < k → EachOnce n (take n (drop (i * n) (Done k .orders)))) → EachOnce n (take n (drop (i * n) (Done k .orders ++ oneRound n lines (k + 1) (getD starts k 0) (Done k .ranks) .order)))
-      go (yes e) ih = rw (e, drop-at (Done k .orders) (oneRound n lines (k + 1) (getD starts k 0) (Done k .ranks) .order) (k * n) (filled k), take-all n (oneRound n lines (k + 1) (getD starts k 0) (Done k .ranks) .order) (omega (arith, good .size))) good
+      go : Dec (i ≡ k) → (i < k → take n (drop (i * n) (Done k .orders)) ≡ oneRound n lines (i + 1) (getD starts i 0) (Done i .ranks) .order)
+          → take n (drop (i * n) (Done k .orders ++ order)) ≡ oneRound n lines (i + 1) (getD starts i 0) (Done i .ranks) .order
+      go (yes e) ih =
+          rw (
+            e,
+            drop-at (Done k .orders) order (k * n) (filled k),
+            take-all n order (omega (arith, round-each-once n lines (k + 1) (getD starts k 0) (Done k .ranks) .size)),
+          )
       go (no m) ih =
           let fits = part-fits i k n (omega arith) in
           rw (
@@ -61,6 +67,9 @@ module _ (n : ℕ) (lines starts : List ℕ) (ranks : List ℕ) where
             take-append-le n (drop (i * n) (Done k .orders)) _ (simp length-drop (omega (arith, filled k, fits))),
           )
           (ih (omega arith))
+
+  part : (k i : ℕ) → i < k → EachOnce n (take n (drop (i * n) (Done k .orders)))
+  part k i h = rw (part-is k i h) (round-each-once n lines (i + 1) (getD starts i 0) (Done i .ranks))
 
 module _ (n k : ℕ) (lines starts : List ℕ) where
   -- THEOREM. There are m ranks, m the number of lines.

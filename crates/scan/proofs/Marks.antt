@@ -21,10 +21,10 @@ pub record Grown (bound : ℕ) (s t : Marks) : Type 0 where
   pub kept : (v : ℕ) → getD (s .marked) v false ≡ true → getD (t .marked) v false ≡ true
   pub ranked : ((p : ℕ) → getD (s .ranks) p 0 ≤ bound) → (p : ℕ) → getD (t .ranks) p 0 ≤ bound
 
-grown-none : (bound : ℕ) (s : Marks) → Grown bound s s
+pub grown-none : (bound : ℕ) (s : Marks) → Grown bound s s
 grown-none bound s = record { size = refl; lines = refl; kept = λ v e. e; ranked = λ h. h }
 
-grown-more : (bound : ℕ) (s t r : Marks) → Grown bound s t → Grown bound t r → Grown bound s r
+pub grown-more : (bound : ℕ) (s t r : Marks) → Grown bound s t → Grown bound t r → Grown bound s r
 grown-more bound s t r a b = record { size = b .size ∙ a .size; lines = b .lines ∙ a .lines; kept = λ v e. b .kept v (a .kept v e); ranked = λ h. b .ranked (a .ranked h) }
 
 -- What is at w after a store at v: the stored value, or what was there.
@@ -51,7 +51,7 @@ take-to-grown round p v bound s h = go (eqb (getD (s .ranks) p 0) 0) (getD (s .m
         }
     go false b = grown-none bound s
 
-take-line-grown : (lines : List ℕ) (round u p bound : ℕ) (s : Marks) → round ≤ bound → Grown bound s (takeLine lines round u p s)
+pub take-line-grown : (lines : List ℕ) (round u p bound : ℕ) (s : Marks) → round ≤ bound → Grown bound s (takeLine lines round u p s)
 unfolding takeLine
 take-line-grown lines round u p bound s h = go (eqb (endOne lines p) u) (eqb (endTwo lines p) u)
   where

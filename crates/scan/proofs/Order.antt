@@ -20,16 +20,16 @@ use Rattle.scan.specs.Rule.{marks, Scanning, scanStation, ready, fresh, 
 use Rattle.scan.proofs.Marks.{Grown, stored, scan-grown}
 
 -- Where a round stands after i scans.
-record Halfway (n i : ℕ) (s : Scanning) : Type 0 where
-  marks-size : length (s .marked) ≡ n
-  scans-size : length (s .scanned) ≡ n
-  order-size : length (s .order) ≡ i
-  counted : count n (λ v. getD (s .scanned) v false) ≡ i
-  marked-too : (v : ℕ) → getD (s .scanned) v false ≡ true → getD (s .marked) v false ≡ true
-  station : (j : ℕ) → j < i → getD (s .order) j 0 < n
-  scanned-too : (j : ℕ) → j < i → getD (s .scanned) (getD (s .order) j 0) false ≡ true
-  once : (a b : ℕ) → a < i → b < i → getD (s .order) a 0 ≡ getD (s .order) b 0 → a ≡ b
-  found : (v : ℕ) → getD (s .scanned) v false ≡ true → (j : ℕ) × (j < i) × (getD (s .order) j 0 ≡ v)
+pub record Halfway (n i : ℕ) (s : Scanning) : Type 0 where
+  pub marks-size : length (s .marked) ≡ n
+  pub scans-size : length (s .scanned) ≡ n
+  pub order-size : length (s .order) ≡ i
+  pub counted : count n (λ v. getD (s .scanned) v false) ≡ i
+  pub marked-too : (v : ℕ) → getD (s .scanned) v false ≡ true → getD (s .marked) v false ≡ true
+  pub station : (j : ℕ) → j < i → getD (s .order) j 0 < n
+  pub scanned-too : (j : ℕ) → j < i → getD (s .scanned) (getD (s .order) j 0) false ≡ true
+  pub once : (a b : ℕ) → a < i → b < i → getD (s .order) a 0 ≡ getD (s .order) b 0 → a ≡ b
+  pub found : (v : ℕ) → getD (s .scanned) v false ≡ true → (j : ℕ) × (j < i) × (getD (s .order) j 0 ≡ v)
 
 begun : (n start : ℕ) (ranks : List ℕ) → Halfway n 0 (roundStart n start ranks)
 begun n start ranks =
@@ -160,7 +160,7 @@ module _ (n i : ℕ) (s : Scanning) (H : Halfway n i s) (more : i < n) where
         found v e (no m) = let (j, l, is) = H .found v (was-scanned v m e) in (j, omega arith, earlier u j l ∙ is)
 
 module _ (n : ℕ) (lines : List ℕ) (round start : ℕ) (ranks : List ℕ) where
-  halfway : (i : ℕ) → i ≤ n → Halfway n i (upTo (λ x. scanNext n lines round) (roundStart n start ranks) i)
+  pub halfway : (i : ℕ) → i ≤ n → Halfway n i (upTo (λ x. scanNext n lines round) (roundStart n start ranks) i)
   unfolding upTo scanNext
   halfway zero h = begun n start ranks
   halfway (suc i) h =
