@@ -3,6 +3,7 @@ use kinds::Judged;
 use kinds::LineList;
 use kinds::Place;
 use kinds::Refusal;
+use kinds::Round;
 use kinds::Station;
 use kinds::is_refused;
 ghost use mathlib.Core.Path.{_≡_};
@@ -40,6 +41,17 @@ pub fn line_at(lines: &[u16], place: Place) -> Line
     let one = end_at(lines, index);
     let two = end_at(lines, index + 1);
     Line { one, two }
+}
+
+// The rank of the line at a place; 0 past the end of the ranks.
+pub fn rank_at(ranks: &[u8], place: Place) -> Round
+    ensures rank { λ r. ⌜ r .0 ≡ getD (now (ranks .entry)) (place .0) 0 ⌝ }
+{
+    let p = place.0 as usize;
+    if p < ranks.len() {
+        return Round(ranks[p]);
+    }
+    Round(0)
 }
 
 // Refusal 1: n is not 1 to 1,024.

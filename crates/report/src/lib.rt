@@ -9,6 +9,7 @@ use kinds::number_of;
 use kinds::place_of;
 use network::Line;
 use network::line_at;
+use network::rank_at;
 ghost use Prim.Native.Nat.{_+_, _*_, _/_, _≤_, _<_};
 ghost use mathlib.Core.Path.{_≡_};
 ghost use mathlib.Core.List.{[], _∷_};
@@ -178,17 +179,6 @@ fn put_line(text: &mut [u8], at: usize, round: Round, place: Place, line: Line) 
     let left = put_from(text, placed, line.one);
     let joined = put_to(text, left, line.two);
     put_newline(text, joined)
-}
-
-// The rank of the line at a place; 0 past the end of the ranks.
-fn rank_at(ranks: &[u8], place: Place) -> Round
-    ensures rank { λ r. ⌜ r .0 ≡ getD (now (ranks .entry)) (place .0) 0 ⌝ }
-{
-    let p = place.0 as usize;
-    if p < ranks.len() {
-        return Round(ranks[p]);
-    }
-    Round(0)
 }
 
 // Writes the row of the line at a place, if its rank is not 0.

@@ -1,9 +1,9 @@
--- `report::rank_at` meets its contract. Past the end of the ranks the definition gives 0, as the code does. Assumes nothing.
+-- `network::rank_at` meets its contract. Past the end of the ranks the definition gives 0, as the code does. Assumes nothing.
 use mathlib.Core.Path.{sym}
 use borrow.Author.Needs.{needs}
 use lib.ListN.{List·getD-eq-default}
-use Rattle.report.proofs.rank_at.Statement.{statement}
-use Rattle.report.proofs.rank_at.Tie as tie
+use Rattle.network.proofs.rank_at.Statement.{statement}
+use Rattle.network.proofs.rank_at.Tie as tie
 
 cast-p : tie.Need-cast-p
 cast-p c = search needs

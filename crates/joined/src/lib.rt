@@ -1,0 +1,1 @@
+// Whether two stations are joined when others are taken away.

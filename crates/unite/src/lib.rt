@@ -1,0 +1,1 @@
+// The union of two line lists.
