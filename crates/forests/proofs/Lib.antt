@@ -1,0 +1,3 @@
+pub mod Verdicts
+pub mod Hops
+pub mod Orders
