@@ -1,3 +1,4 @@
 pub mod Verdicts
 pub mod Hops
 pub mod Orders
+pub mod Trees

@@ -1,0 +1,148 @@
+-- The trees of a round whose stations are all good: a station is in the tree of the earliest of its earlier neighbours in play, arrows lead to it
+-- from its tree's root, and two stations are joined by rank-i lines just where they are in one tree. Assumes nothing.
+use Prim.Native.Nat.{ℕ, zero, suc, _/_, _<_, _≤_}
+use mathlib.Core.Path.{_≡_, refl, sym, ap, _∙_}
+use mathlib.Core.List.{List, [], _∷_, _++_}
+use mathlib.Core.Logic.{_⊎_, _⊎_.inl, _⊎_.inr}
+use native.Mathlib.Decide.{ℕ-discrete, decLt}
+use native.Mathlib.Omega.{arith}
+use borrow.Author.Tests.{lt-ltb, le-ltb}
+use lib.Dec.{ltb}
+use lib.ListN.{length, getD, length-append, List·getD-append}
+use lib.Seq.{getD-append-seam}
+use Rattle.laws.specs.Fold.{pick, upTo}
+use Rattle.network.specs.Lines.{network, Proper}
+use Rattle.network.specs.Chains.{Hop, Chain, Chain.here, Every}
+use Rattle.network.specs.Orders.{EachOnce}
+use Rattle.network.proofs.Chains.{hop-back, hop-in, hop-apart, chain-join, chain-hop, chain-back, chain-map, chain-keeps}
+use Rattle.forests.specs.Checking.{earliest, positionOf, addTree, treesOf}
+use Rattle.forests.specs.Published.{Arrow}
+use Rattle.forests.specs.Plans.{InPlay, OfRank}
+use Rattle.forests.specs.Faults.{Beside, Tied, Earliest, StationGood}
+use Rattle.forests.proofs.Hops.{earliest-cases, earliest-one}
+use Rattle.forests.proofs.Orders.{position-order, position-below, order-position, position-one}
+
+last-at : (front : List ℕ) (v j : ℕ) → length front ≡ j → getD (front ++ (v ∷ [])) j 0 ≡ v
+last-at front v j e = rw (← e) (getD-append-seam front v [] 0)
+
+module _ (n : ℕ) (lines ranks : List ℕ) (i : ℕ) (order : List ℕ) where
+  -- ── the trees of the first positions ──
+
+  trees-size : (count : ℕ) → length (treesOf lines ranks i order count) ≡ count
+  unfolding treesOf upTo addTree
+  trees-size zero = refl
+  trees-size (suc count) = simp length-append (omega (arith, trees-size count))
+
+  -- one tree more leaves the others as they were
+  tree-kept : (count j : ℕ) → j < count → getD (treesOf lines ranks i order (suc count)) j 0 ≡ getD (treesOf lines ranks i order count) j 0
+  unfolding treesOf upTo addTree
+  tree-kept count j h = List·getD-append (treesOf lines ranks i order count) _ 0 j (omega (arith, trees-size count))
+
+  tree-new : (j : ℕ) → getD (treesOf lines ranks i order (suc j)) j 0
+      ≡ pick (ltb (earliest lines ranks i order (length lines / 2) j) j) (getD (treesOf lines ranks i order j) (earliest lines ranks i order (length lines / 2) j) 0) j
+  unfolding treesOf upTo addTree
+  tree-new j = last-at (treesOf lines ranks i order j) _ j (trees-size j)
+
+  -- a station without an earlier neighbour in play is a root
+  trees-root : (count j : ℕ) → j < count → ((h : ℕ) → h < j → ¬ Beside n lines ranks i order j h) → getD (treesOf lines ranks i order count) j 0 ≡ j
+  trees-root zero j l none = absurd (omega arith)
+  trees-root (suc count) j l none = go (decLt j count) (earliest-cases n lines ranks i order j) (λ m. trees-root count j m none)
+    where
+      e : ℕ
+      e = earliest lines ranks i order (length lines / 2) j
+
+      go : Dec (j < count)
+          → ((e < j) × Earliest n lines ranks i order j e) ⊎ ((e ≡ j) × ((h : ℕ) → h < j → ¬ Beside n lines ranks i order j h))
+          → (j < count → getD (treesOf lines ranks i order count) j 0 ≡ j) → getD (treesOf lines ranks i order (suc count)) j 0 ≡ j
+      go (yes m) c ih = tree-kept count j m ∙ ih m
+      go (no m) (inl (less, E)) ih = absurd (none e less (E .beside))
+      go (no m) (inr (same, N)) ih = let c : count ≡ j = omega arith in rw c (tree-new j ∙ rw (le-ltb e j (omega arith)))
+
+  -- another is in the tree of the earliest of them
+  trees-child : (count j h : ℕ) → j < count → Earliest n lines ranks i order j h → getD (treesOf lines ranks i order count) j 0 ≡ getD (treesOf lines ranks i order count) h 0
+  trees-child zero j h l E = absurd (omega arith)
+  trees-child (suc count) j h l E = go (decLt j count) (earliest-cases n lines ranks i order j) (λ m. trees-child count j h m E)
+    where
+      e : ℕ
+      e = earliest lines ranks i order (length lines / 2) j
+
+      go : Dec (j < count)
+          → ((e < j) × Earliest n lines ranks i order j e) ⊎ ((e ≡ j) × ((h : ℕ) → h < j → ¬ Beside n lines ranks i order j h))
+          → (j < count → getD (treesOf lines ranks i order count) j 0 ≡ getD (treesOf lines ranks i order count) h 0)
+          → getD (treesOf lines ranks i order (suc count)) j 0 ≡ getD (treesOf lines ranks i order (suc count)) h 0
+      go (yes m) c ih = tree-kept count j m ∙ (ih m ∙ sym (tree-kept count h (omega (arith, E .earlier))))
+      go (no m) (inl (less, F)) ih =
+          let c : count ≡ j = omega arith in
+          let one : e ≡ h = earliest-one n lines ranks i order F E in
+          rw c (tree-new j ∙ (rw (lt-ltb e j less, one) (sym (tree-kept j h (E .earlier)))))
+      go (no m) (inr (same, N)) ih = absurd (N h (E .earlier) (E .beside))
+
+  -- ── the trees of all positions ──
+
+  -- the position of the root of the tree of the station at position j
+  abbrev pub tree : ℕ → ℕ
+  tree j = getD (treesOf lines ranks i order n) j 0
+
+  module _ (P : Proper (network n lines)) (O : EachOnce n order) (good : (j : ℕ) → j < n → StationGood n lines ranks i order j) where
+    abbrev Ranked : ℕ → ℕ → Type 0
+    Ranked = Hop (network n lines) (OfRank ranks i)
+
+    abbrev Up : ℕ → ℕ → Type 0
+    Up = Arrow (network n lines) (OfRank ranks i) (positionOf n order)
+
+    -- a rank-i line between two stations is one between their positions
+    pub ranked-tied : (u v : ℕ) → Ranked u v → Tied n lines ranks i order (positionOf n order u) (positionOf n order v)
+    ranked-tied u v r = rw (order-position n order O u (hop-in P r), order-position n order O v (hop-in P (hop-back r))) r
+
+    -- arrows lead from the root to the station at position j
+    arrows-below : (most j : ℕ) → j < most → j < n → (tree j ≤ j) × Chain Up Every (getD order (tree j) 0) (getD order j 0)
+    arrows-below zero j l h = absurd (omega arith)
+    arrows-below (suc most) j l h = go (earliest-cases n lines ranks i order j) (λ x. arrows-below most x)
+      where
+        e : ℕ
+        e = earliest lines ranks i order (length lines / 2) j
+
+        go : ((e < j) × Earliest n lines ranks i order j e) ⊎ ((e ≡ j) × ((h : ℕ) → h < j → ¬ Beside n lines ranks i order j h))
+            → ((x : ℕ) → x < most → x < n → (tree x ≤ x) × Chain Up Every (getD order (tree x) 0) (getD order x 0))
+            → (tree j ≤ j) × Chain Up Every (getD order (tree j) 0) (getD order j 0)
+        go (inl (less, E)) ih =
+            let (low, c) = ih e (omega arith) (omega arith) in
+            let up : Up (getD order e 0) (getD order j 0) = record {
+              line = hop-back (good j h .parent e E);
+              rises = omega (arith, position-order n order O e (omega arith), position-order n order O j h);
+            } in
+            rw (trees-child n j e h E) (omega arith, chain-join c (chain-hop tt tt up))
+        go (inr (same, N)) ih = rw (trees-root n j h N) (omega arith, here tt)
+
+    pub arrows : (v : ℕ) → v < n → Chain Up Every (getD order (tree (positionOf n order v)) 0) v
+    arrows v h =
+        let c = arrows-below (suc (positionOf n order v)) (positionOf n order v) (omega arith) (position-below n order O v h) .1 in
+        rw (order-position n order O v h) at c
+
+    -- the same by rank-i lines, either way
+    pub root-joined : (v : ℕ) → v < n → Chain Ranked Every v (getD order (tree (positionOf n order v)) 0)
+    root-joined v h = chain-back (λ x y. hop-back) (chain-map (λ x y (a : Up x y). a .line) (arrows v h))
+
+    -- the ends of a rank-i line are in one tree
+    ranked-tree : (u v : ℕ) → Ranked u v → tree (positionOf n order u) ≡ tree (positionOf n order v)
+    ranked-tree u v r = go (decLt (positionOf n order u) (positionOf n order v)) (decLt (positionOf n order v) (positionOf n order u))
+      where
+        below : (x y : ℕ) → Ranked x y → positionOf n order y < positionOf n order x → tree (positionOf n order x) ≡ tree (positionOf n order y)
+        below x y r l =
+            let h = position-below n order O x (hop-in P r) in
+            trees-child n (positionOf n order x) (positionOf n order y) h (good (positionOf n order x) h .no-other (positionOf n order y) l (ranked-tied x y r))
+
+        go : Dec (positionOf n order u < positionOf n order v) → Dec (positionOf n order v < positionOf n order u) → tree (positionOf n order u) ≡ tree (positionOf n order v)
+        go (yes l) d = sym (below v u (hop-back r) l)
+        go (no m) (yes l) = below u v r l
+        go (no m) (no o) = let e : positionOf n order u ≡ positionOf n order v = omega arith in rw e
+
+    -- THEOREM. Two stations are joined by rank-i lines just where they are in one tree.
+    pub joined-tree : {u v : ℕ} → Chain Ranked Every u v → tree (positionOf n order u) ≡ tree (positionOf n order v)
+    joined-tree {u} {v} c =
+        chain-keeps (λ x. tree (positionOf n order u) ≡ tree (positionOf n order x)) (λ x y r e. e ∙ ranked-tree x y r) c refl
+
+    pub tree-joined : (u v : ℕ) → u < n → v < n → tree (positionOf n order u) ≡ tree (positionOf n order v) → Chain Ranked Every u v
+    tree-joined u v h k e =
+        let c : Chain Ranked Every u (getD order (tree (positionOf n order v)) 0) = rw e at (root-joined u h) in
+        chain-join c (chain-back (λ x y. hop-back) (root-joined v k))
