@@ -44,7 +44,7 @@ module _ (n : ℕ) (lines ranks : List ℕ) (i : ℕ) (order : List ℕ) where
   abbrev Up : ℕ → ℕ → Type 0
   Up = Arrow (network n lines) (OfRank ranks i) t
 
-  ranked-playing : {u v : ℕ} → Ranked u v → Playing u v
+  pub ranked-playing : {u v : ℕ} → Ranked u v → Playing u v
   ranked-playing r = hop-map (rank-in-play ranks i) r
 
   module _ (S : Simple (network n lines)) (O : EachOnce n order) where
@@ -77,18 +77,18 @@ module _ (n : ℕ) (lines ranks : List ℕ) (i : ℕ) (order : List ℕ) where
           omega (arith, position-order n order O h (omega arith), position-order n order O x m, G .parent (getD order x 0) (getD order j 0) (getD order h 0) (hop-back b) (tied-above j h l k r))
 
       pub greedy-station : (j : ℕ) → j < n → StationGood n lines ranks i order j
-      greedy-station j l = record { parent = λ h E. kept h E (parent-of j l); no-other = λ h k r. only h k r }
+      greedy-station j l = record { parent = λ h found. kept h found (parent-of j l); no-other = λ h k r. only h k r }
         where
           kept : (h : ℕ) → Earliest n lines ranks i order j h
               → ((h : ℕ) × (h < j) × Tied n lines ranks i order j h) ⊎ Parent (network n lines) (OfRank ranks i) t (getD order j 0) (getD order j 0)
               → Tied n lines ranks i order j h
-          kept h E (inl (x, k, r)) = go (decLt x h) (least j x h l k r (omega (arith, E .earlier)) (E .beside))
+          kept h found (inl (x, k, r)) = go (decLt x h) (least j x h l k r (omega (arith, found .earlier)) (found .beside))
             where
               go : Dec (x < h) → x ≤ h → Tied n lines ranks i order j h
-              go (yes m) low = absurd (E .first x m (ranked-playing r))
+              go (yes m) low = absurd (found .first x m (ranked-playing r))
               go (no m) low = let e : x ≡ h = omega arith in rw e at r
-          kept h E (inr p) =
-              absurd (omega (arith, E .earlier, G .parent (getD order h 0) (getD order j 0) (getD order j 0) (hop-back (E .beside)) p, position-order n order O j l, position-order n order O h (omega (arith, E .earlier))))
+          kept h found (inr p) =
+              absurd (omega (arith, found .earlier, G .parent (getD order h 0) (getD order j 0) (getD order j 0) (hop-back (found .beside)) p, position-order n order O j l, position-order n order O h (omega (arith, found .earlier))))
 
           only : (h : ℕ) → h < j → Tied n lines ranks i order j h → Earliest n lines ranks i order j h
           only h k r = record { earlier = k; beside = ranked-playing r; first = λ x m b. omega (arith, least j h x l k r (omega arith) b) }
@@ -190,9 +190,9 @@ module _ (n : ℕ) (lines ranks : List ℕ) (i : ℕ) (order : List ℕ) where
               → t v ≤ t w
           go (no m) c = omega arith
           go (yes l) (inr (same, N)) = absurd (N (t w) l (playing-beside v w (hop-back b)))
-          go (yes l) (inl (less, E)) =
+          go (yes l) (inl (less, found)) =
               let below = position-below n order O v inside in
-              let tied : Ranked v (getD order e 0) = rw (order-position n order O v inside) at (good (t v) below .parent e E) in
+              let tied : Ranked v (getD order e 0) = rw (order-position n order O v inside) at (good (t v) below .parent e found) in
               absurd (none (getD order e 0) (record { line = hop-back tied; rises = omega (arith, position-order n order O e (omega arith)) }))
 
       pub good-greedy : ((p : ℕ) → p < length lines / 2 → InPlay ranks i p → EndsJoined n lines ranks i p) → Greedy (network n lines) (InPlay ranks i) (OfRank ranks i) t

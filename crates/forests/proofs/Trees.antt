@@ -55,13 +55,13 @@ module _ (n : ℕ) (lines ranks : List ℕ) (i : ℕ) (order : List ℕ) where
           → ((e < j) × Earliest n lines ranks i order j e) ⊎ ((e ≡ j) × ((h : ℕ) → h < j → ¬ Beside n lines ranks i order j h))
           → (j < count → getD (treesOf lines ranks i order count) j 0 ≡ j) → getD (treesOf lines ranks i order (suc count)) j 0 ≡ j
       go (yes m) c ih = tree-kept count j m ∙ ih m
-      go (no m) (inl (less, E)) ih = absurd (none e less (E .beside))
+      go (no m) (inl (less, found)) ih = absurd (none e less (found .beside))
       go (no m) (inr (same, N)) ih = let c : count ≡ j = omega arith in rw c (tree-new j ∙ rw (le-ltb e j (omega arith)))
 
   -- another is in the tree of the earliest of them
   trees-child : (count j h : ℕ) → j < count → Earliest n lines ranks i order j h → getD (treesOf lines ranks i order count) j 0 ≡ getD (treesOf lines ranks i order count) h 0
-  trees-child zero j h l E = absurd (omega arith)
-  trees-child (suc count) j h l E = go (decLt j count) (earliest-cases n lines ranks i order j) (λ m. trees-child count j h m E)
+  trees-child zero j h l found = absurd (omega arith)
+  trees-child (suc count) j h l found = go (decLt j count) (earliest-cases n lines ranks i order j) (λ m. trees-child count j h m found)
     where
       e : ℕ
       e = earliest lines ranks i order (length lines / 2) j
@@ -70,12 +70,12 @@ module _ (n : ℕ) (lines ranks : List ℕ) (i : ℕ) (order : List ℕ) where
           → ((e < j) × Earliest n lines ranks i order j e) ⊎ ((e ≡ j) × ((h : ℕ) → h < j → ¬ Beside n lines ranks i order j h))
           → (j < count → getD (treesOf lines ranks i order count) j 0 ≡ getD (treesOf lines ranks i order count) h 0)
           → getD (treesOf lines ranks i order (suc count)) j 0 ≡ getD (treesOf lines ranks i order (suc count)) h 0
-      go (yes m) c ih = tree-kept count j m ∙ (ih m ∙ sym (tree-kept count h (omega (arith, E .earlier))))
-      go (no m) (inl (less, F)) ih =
+      go (yes m) c ih = tree-kept count j m ∙ (ih m ∙ sym (tree-kept count h (omega (arith, found .earlier))))
+      go (no m) (inl (less, own)) ih =
           let c : count ≡ j = omega arith in
-          let one : e ≡ h = earliest-one n lines ranks i order F E in
-          rw c (tree-new j ∙ (rw (lt-ltb e j less, one) (sym (tree-kept j h (E .earlier)))))
-      go (no m) (inr (same, N)) ih = absurd (N h (E .earlier) (E .beside))
+          let one : e ≡ h = earliest-one n lines ranks i order own found in
+          rw c (tree-new j ∙ (rw (lt-ltb e j less, one) (sym (tree-kept j h (found .earlier)))))
+      go (no m) (inr (same, N)) ih = absurd (N h (found .earlier) (found .beside))
 
   -- ── the trees of all positions ──
 
@@ -105,13 +105,13 @@ module _ (n : ℕ) (lines ranks : List ℕ) (i : ℕ) (order : List ℕ) where
         go : ((e < j) × Earliest n lines ranks i order j e) ⊎ ((e ≡ j) × ((h : ℕ) → h < j → ¬ Beside n lines ranks i order j h))
             → ((x : ℕ) → x < most → x < n → (tree x ≤ x) × Chain Up Every (getD order (tree x) 0) (getD order x 0))
             → (tree j ≤ j) × Chain Up Every (getD order (tree j) 0) (getD order j 0)
-        go (inl (less, E)) ih =
+        go (inl (less, found)) ih =
             let (low, c) = ih e (omega arith) (omega arith) in
             let up : Up (getD order e 0) (getD order j 0) = record {
-              line = hop-back (good j h .parent e E);
+              line = hop-back (good j h .parent e found);
               rises = omega (arith, position-order n order O e (omega arith), position-order n order O j h);
             } in
-            rw (trees-child n j e h E) (omega arith, chain-join c (chain-hop tt tt up))
+            rw (trees-child n j e h found) (omega arith, chain-join c (chain-hop tt tt up))
         go (inr (same, N)) ih = rw (trees-root n j h N) (omega arith, here tt)
 
     pub arrows : (v : ℕ) → v < n → Chain Up Every (getD order (tree (positionOf n order v)) 0) v
