@@ -1,13 +1,13 @@
 -- What the check says of one entry, one station and one line: accepted where it is good, and its fault where it has one.
 -- Assumes nothing.
 use Prim.Native.Nat.{ℕ, _/_, _<_, _≤_}
-use mathlib.Core.Path.{_≡_, refl, sym, _∙_}
-use mathlib.Core.Bool.{Bool, true, false, not, _&&_, true≢false}
+use mathlib.Core.Path.{_≡_, refl, sym}
+use mathlib.Core.Bool.{Bool, true, false, not, _&&_}
 use mathlib.Core.List.{List}
-use mathlib.Core.Logic.{_⊎_, _⊎_.inl, _⊎_.inr}
+use mathlib.Core.Logic.{_⊎_.inl, _⊎_.inr}
 use native.Mathlib.Decide.{ℕ-discrete}
 use native.Mathlib.Omega.{arith}
-use borrow.Author.Tests.{lt-ltb, le-ltb, le-leb, lt-leb, eqb-true, eq-eqb, ne-eqb}
+use borrow.Author.Tests.{lt-ltb, le-ltb, le-leb, lt-leb, eq-eqb, ne-eqb}
 use lib.Dec.{ltb, leb, eqb}
 use lib.ListN.{length, getD}
 use Rattle.laws.specs.Fold.{anyFrom}
@@ -15,11 +15,11 @@ use Rattle.laws.proofs.Fold.{first-last, some-any}
 use Rattle.network.specs.Lines.{endOne, endTwo, network, Proper}
 use Rattle.network.specs.Orders.{EachOnce}
 use Rattle.network.proofs.Ends.{or-true}
-use Rattle.forests.specs.Verdicts.{Kind, Kind.A, Kind.B, Kind.C, Kind.D, Kind.E, Verdict, Verdict.accepted, Verdict.faulty}
-use Rattle.forests.specs.Checking.{inPlay, ofRank, linked, rankVerdict, entryVerdict, earliest, hasParent, hasOther, parentVerdict, otherVerdict, stationVerdict, positionOf, lineVerdict}
-use Rattle.forests.specs.Plans.{InPlay, OfRank}
+use Rattle.forests.specs.Verdicts.{Kind, Kind.A, Kind.B, Kind.C, Kind.D, Kind.E, Verdict.accepted, Verdict.faulty}
+use Rattle.forests.specs.Checking.{inPlay, rankVerdict, entryVerdict, hasParent, hasOther, parentVerdict, otherVerdict, stationVerdict, positionOf, lineVerdict}
+use Rattle.forests.specs.Plans.{InPlay}
 use Rattle.forests.specs.Faults.{EntryGood, EntryFault, EntryFault.outside, EntryFault.stood, Beside, Tied, Earliest, StationGood, StationFault, StationFault.parent, StationFault.other, EndsJoined}
-use Rattle.forests.proofs.Hops.{in-play, play-in, linked-tied, tied-linked, earliest-cases, earliest-one}
+use Rattle.forests.proofs.Hops.{in-play, play-in, linked-tied, tied-linked, isTied, firstBeside, Searched, searched, earliest-one}
 use Rattle.forests.proofs.Trees.{tree, joined-tree, tree-joined}
 
 and-false : (x : Bool) → (x && false) ≡ false
@@ -58,35 +58,35 @@ module _ (n i : ℕ) (order : List ℕ) (j : ℕ) where
 -- ── C and D ──
 
 module _ (n : ℕ) (lines ranks : List ℕ) (i : ℕ) (order : List ℕ) (j : ℕ) where
-  -- the position that the check takes for the earliest
+  -- the position that the check takes for the earliest, and its test of a rank-i line
   abbrev e : ℕ
-  e = earliest lines ranks i order (length lines / 2) j
+  e = firstBeside n lines ranks i order j
 
-  abbrev EarliestCases : Type 0
-  EarliestCases = ((e < j) × Earliest n lines ranks i order j e) ⊎ ((e ≡ j) × ((h : ℕ) → h < j → ¬ Beside n lines ranks i order j h))
+  abbrev tied : ℕ → Bool
+  tied = isTied n lines ranks i order j
 
-  -- it is the earliest, where there is one
+  -- e is the earliest, where there is one
   is-earliest : (h : ℕ) → Earliest n lines ranks i order j h → (e < j) × (e ≡ h)
-  is-earliest h found = go (earliest-cases n lines ranks i order j)
+  is-earliest h found = go (searched n lines ranks i order j)
     where
-      go : EarliestCases → (e < j) × (e ≡ h)
+      go : Searched n lines ranks i order j → (e < j) × (e ≡ h)
       go (inl (less, own)) = (less, earliest-one n lines ranks i order own found)
       go (inr (same, N)) = absurd (N h (found .earlier) (found .beside))
 
   parent-accepted : ((h : ℕ) → Earliest n lines ranks i order j h → Tied n lines ranks i order j h) → parentVerdict lines ranks i order j ≡ accepted
   unfolding parentVerdict hasParent
-  parent-accepted good = go (earliest-cases n lines ranks i order j)
+  parent-accepted good = go (searched n lines ranks i order j)
     where
-      go : EarliestCases → parentVerdict lines ranks i order j ≡ accepted
+      go : Searched n lines ranks i order j → parentVerdict lines ranks i order j ≡ accepted
       go (inl (less, found)) = rw (tied-linked n lines ranks i order j e (good e found), and-false (ltb e j))
       go (inr (same, N)) = rw (le-ltb e j (omega arith))
 
   parent-faulty : (h : ℕ) → Earliest n lines ranks i order j h → ¬ Tied n lines ranks i order j h → parentVerdict lines ranks i order j ≡ faulty i C (getD order j 0)
   unfolding parentVerdict hasParent
-  parent-faulty h found bad = let (less, is) = is-earliest h found in rw (lt-ltb e j less, is, untied (linked lines (length lines / 2) (ofRank ranks i) (getD order j 0) (getD order h 0)) refl)
+  parent-faulty h found bad = let (less, is) = is-earliest h found in rw (lt-ltb e j less, is, untied (tied h) refl)
     where
-      untied : (b : Bool) → linked lines (length lines / 2) (ofRank ranks i) (getD order j 0) (getD order h 0) ≡ b
-          → linked lines (length lines / 2) (ofRank ranks i) (getD order j 0) (getD order h 0) ≡ false
+      untied : (b : Bool) → tied h ≡ b
+          → tied h ≡ false
       untied true x = absurd (bad (linked-tied n lines ranks i order j h x))
       untied false x = x
 
@@ -95,26 +95,26 @@ module _ (n : ℕ) (lines ranks : List ℕ) (i : ℕ) (order : List ℕ) (j : �
   other-accepted good = rw none
     where
       test : ℕ → Bool
-      test h = not (eqb h e) && linked lines (length lines / 2) (ofRank ranks i) (getD order j 0) (getD order h 0)
+      test h = not (eqb h e) && tied h
 
-      at : (h : ℕ) → h < j → (b : Bool) → linked lines (length lines / 2) (ofRank ranks i) (getD order j 0) (getD order h 0) ≡ b → test h ≡ false
+      at : (h : ℕ) → h < j → (b : Bool) → tied h ≡ b → test h ≡ false
       at h l true x = rw (eq-eqb h e (sym (is-earliest h (good h l (linked-tied n lines ranks i order j h x)) .1)))
       at h l false x = rw (x, and-false (not (eqb h e)))
 
       none : anyFrom test 0 j ≡ false
-      none = first-last (λ b. b) test false j (λ h l. at h l (linked lines (length lines / 2) (ofRank ranks i) (getD order j 0) (getD order h 0)) refl)
+      none = first-last (λ b. b) test false j (λ h l. at h l (tied h) refl)
 
   other-faulty : (h x : ℕ) → h < j → Tied n lines ranks i order j h → x < h → Beside n lines ranks i order j x → otherVerdict lines ranks i order j ≡ faulty i D (getD order j 0)
   unfolding otherVerdict hasOther
   other-faulty h x l r m b = rw some
     where
-      another : EarliestCases → h ≡ e → ⊥
+      another : Searched n lines ranks i order j → h ≡ e → ⊥
       another (inl (less, found)) is = found .first x (omega arith) b
       another (inr (same, N)) is = omega arith
 
-      some : anyFrom (λ h. not (eqb h e) && linked lines (length lines / 2) (ofRank ranks i) (getD order j 0) (getD order h 0)) 0 j ≡ true
-      some = some-any (λ h. not (eqb h e) && linked lines (length lines / 2) (ofRank ranks i) (getD order j 0) (getD order h 0)) j h l
-          (rw (ne-eqb h e (another (earliest-cases n lines ranks i order j)), tied-linked n lines ranks i order j h r))
+      some : anyFrom (λ h. not (eqb h e) && tied h) 0 j ≡ true
+      some = some-any (λ h. not (eqb h e) && tied h) j h l
+          (rw (ne-eqb h e (another (searched n lines ranks i order j)), tied-linked n lines ranks i order j h r))
 
   pub station-accepted : StationGood n lines ranks i order j → stationVerdict lines ranks i order j ≡ accepted
   unfolding stationVerdict

@@ -1,7 +1,7 @@
 -- A round meets the published definition just where its order has each station once, its stations are good and each line in play has its ends
 -- joined by rank-i lines. The idea: a station's parent is the earliest of its earlier neighbours in play. Assumes nothing.
 use Prim.Native.Nat.{ℕ, _/_, _<_, _≤_}
-use mathlib.Core.Path.{_≡_, refl, sym, _∙_}
+use mathlib.Core.Path.{_≡_, refl}
 use mathlib.Core.List.{List}
 use mathlib.Core.Logic.{_≢_, _⊎_, _⊎_.inl, _⊎_.inr}
 use native.Mathlib.Decide.{decLt}
@@ -11,12 +11,12 @@ use Rattle.laws.proofs.Decide.{some-below}
 use Rattle.network.specs.Lines.{endOne, endTwo, network, Joins, Joins.forth, Joins.back, Simple}
 use Rattle.network.specs.Chains.{Hop, Hop.by, Chain, Every}
 use Rattle.network.specs.Orders.{EachOnce}
-use Rattle.network.proofs.Chains.{joins-back, hop-back, hop-in, hop-apart, hop-map, chain-back, chain-keeps}
-use Rattle.forests.specs.Checking.{earliest, positionOf}
-use Rattle.forests.specs.Published.{MaximalForest, Arrow, Rooted, Parent, Parent.above, Parent.itself, Greedy}
+use Rattle.network.proofs.Chains.{hop-back, hop-in, hop-apart, hop-map, chain-back, chain-keeps}
+use Rattle.forests.specs.Checking.{positionOf}
+use Rattle.forests.specs.Published.{Arrow, Rooted, Parent, Parent.above, Parent.itself, Greedy}
 use Rattle.forests.specs.Plans.{InPlay, OfRank, RoundMeets}
 use Rattle.forests.specs.Faults.{Beside, Tied, Earliest, StationGood, EndsJoined}
-use Rattle.forests.proofs.Hops.{tied-or-not, earliest-cases, earliest-one}
+use Rattle.forests.proofs.Hops.{tied-or-not, firstBeside, Searched, searched, earliest-one}
 use Rattle.forests.proofs.Orders.{position-order, position-below, order-position, position-one}
 use Rattle.forests.proofs.Trees.{tree, ranked-tied, arrows, root-joined, joined-tree}
 
@@ -177,17 +177,15 @@ module _ (n : ℕ) (lines ranks : List ℕ) (i : ℕ) (order : List ℕ) where
           go : Dec (t w < t u) → t u ≤ t w
           go (yes l) = absurd (ranked-earliest v u (hop-back (a .line)) (a .rises) .first (t w) l (playing-beside v w (hop-back b)))
           go (no m) = omega arith
-      parent-first w v u b (itself none) = go (decLt (t w) (t v)) (earliest-cases n lines ranks i order (t v))
+      parent-first w v u b (itself none) = go (decLt (t w) (t v)) (searched n lines ranks i order (t v))
         where
           inside : v < n
           inside = hop-in (S .proper) (hop-back b)
 
           e : ℕ
-          e = earliest lines ranks i order (length lines / 2) (t v)
+          e = firstBeside n lines ranks i order (t v)
 
-          go : Dec (t w < t v)
-              → ((e < t v) × Earliest n lines ranks i order (t v) e) ⊎ ((e ≡ t v) × ((h : ℕ) → h < t v → ¬ Beside n lines ranks i order (t v) h))
-              → t v ≤ t w
+          go : Dec (t w < t v) → Searched n lines ranks i order (t v) → t v ≤ t w
           go (no m) c = omega arith
           go (yes l) (inr (same, N)) = absurd (N (t w) l (playing-beside v w (hop-back b)))
           go (yes l) (inl (less, found)) =

@@ -1,8 +1,8 @@
 -- What the check's tests of lines say: that a line of the kind meant joins two stations, and which earlier neighbour is the earliest.
 -- Assumes nothing.
-use Prim.Native.Nat.{ℕ, _/_, _<_, _≤_}
+use Prim.Native.Nat.{ℕ, _/_, _<_}
 use mathlib.Core.Path.{_≡_, refl, sym, _∙_}
-use mathlib.Core.Bool.{Bool, true, false, _&&_, _||_, true≢false}
+use mathlib.Core.Bool.{Bool, true, false, _&&_, true≢false}
 use mathlib.Core.List.{List}
 use mathlib.Core.Logic.{_⊎_, _⊎_.inl, _⊎_.inr}
 use native.Mathlib.Decide.{decLt}
@@ -60,49 +60,59 @@ module _ (n : ℕ) (lines : List ℕ) where
       some-any (λ p. test p && sameEnds u v (endOne lines p) (endTwo lines p)) (length lines / 2) p l (rw (says p h, same-joins n lines p u v j))
 
 module _ (n : ℕ) (lines ranks : List ℕ) (i : ℕ) (order : List ℕ) where
-  pub linked-beside : (j h : ℕ) → linked lines (length lines / 2) (inPlay ranks i) (getD order j 0) (getD order h 0) ≡ true → Beside n lines ranks i order j h
+  -- the check's tests of the stations at two positions, and the position that it takes for the earliest
+  abbrev pub isBeside : ℕ → ℕ → Bool
+  isBeside j h = linked lines (length lines / 2) (inPlay ranks i) (getD order j 0) (getD order h 0)
+
+  abbrev pub isTied : ℕ → ℕ → Bool
+  isTied j h = linked lines (length lines / 2) (ofRank ranks i) (getD order j 0) (getD order h 0)
+
+  abbrev pub firstBeside : ℕ → ℕ
+  firstBeside j = earliest lines ranks i order (length lines / 2) j
+
+  pub linked-beside : (j h : ℕ) → isBeside j h ≡ true → Beside n lines ranks i order j h
   linked-beside j h e = linked-hop n lines (inPlay ranks i) (InPlay ranks i) (in-play ranks i) (getD order j 0) (getD order h 0) e
 
-  pub beside-linked : (j h : ℕ) → Beside n lines ranks i order j h → linked lines (length lines / 2) (inPlay ranks i) (getD order j 0) (getD order h 0) ≡ true
+  pub beside-linked : (j h : ℕ) → Beside n lines ranks i order j h → isBeside j h ≡ true
   beside-linked j h b = hop-linked n lines (inPlay ranks i) (InPlay ranks i) (play-in ranks i) (getD order j 0) (getD order h 0) b
 
-  pub linked-tied : (j h : ℕ) → linked lines (length lines / 2) (ofRank ranks i) (getD order j 0) (getD order h 0) ≡ true → Tied n lines ranks i order j h
+  pub linked-tied : (j h : ℕ) → isTied j h ≡ true → Tied n lines ranks i order j h
   linked-tied j h e = linked-hop n lines (ofRank ranks i) (OfRank ranks i) (of-rank ranks i) (getD order j 0) (getD order h 0) e
 
-  pub tied-linked : (j h : ℕ) → Tied n lines ranks i order j h → linked lines (length lines / 2) (ofRank ranks i) (getD order j 0) (getD order h 0) ≡ true
+  pub tied-linked : (j h : ℕ) → Tied n lines ranks i order j h → isTied j h ≡ true
   tied-linked j h b = hop-linked n lines (ofRank ranks i) (OfRank ranks i) (rank-of ranks i) (getD order j 0) (getD order h 0) b
 
   -- whether a line of rank i joins the stations at two positions
   pub tied-or-not : (j h : ℕ) → Dec (Tied n lines ranks i order j h)
-  tied-or-not j h = go (linked lines (length lines / 2) (ofRank ranks i) (getD order j 0) (getD order h 0)) refl
+  tied-or-not j h = go (isTied j h) refl
     where
-      go : (b : Bool) → linked lines (length lines / 2) (ofRank ranks i) (getD order j 0) (getD order h 0) ≡ b → Dec (Tied n lines ranks i order j h)
+      go : (b : Bool) → isTied j h ≡ b → Dec (Tied n lines ranks i order j h)
       go true e = yes (linked-tied j h e)
       go false e = no (λ b. true≢false (sym (tied-linked j h b) ∙ e))
 
   -- what the search for the earliest of the earlier neighbours in play found: that one; or that there is none
-  pub earliest-cases : (j : ℕ)
-      → ((earliest lines ranks i order (length lines / 2) j < j) × Earliest n lines ranks i order j (earliest lines ranks i order (length lines / 2) j))
-      ⊎ ((earliest lines ranks i order (length lines / 2) j ≡ j) × ((h : ℕ) → h < j → ¬ Beside n lines ranks i order j h))
-  unfolding earliest
-  earliest-cases j = go (first-cases (λ h. linked lines (length lines / 2) (inPlay ranks i) (getD order j 0) (getD order h 0)) (λ h. h) j 0 j)
-    where
-      test : ℕ → Bool
-      test h = linked lines (length lines / 2) (inPlay ranks i) (getD order j 0) (getD order h 0)
+  abbrev pub Searched : ℕ → Type 0
+  Searched j =
+      ((firstBeside j < j) × Earliest n lines ranks i order j (firstBeside j))
+      ⊎ ((firstBeside j ≡ j) × ((h : ℕ) → h < j → ¬ Beside n lines ranks i order j h))
 
-      unlinked : (h : ℕ) → test h ≡ false → ¬ Beside n lines ranks i order j h
+  pub searched : (j : ℕ) → Searched j
+  unfolding earliest
+  searched j = go (first-cases (isBeside j) (λ h. h) j 0 j)
+    where
+      unlinked : (h : ℕ) → isBeside j h ≡ false → ¬ Beside n lines ranks i order j h
       unlinked h e b = true≢false (sym (beside-linked j h b) ∙ e)
 
-      go : FoundAt test (λ h. h) 0 j (earliest lines ranks i order (length lines / 2) j)
-          ⊎ FoundNone test (λ h. h) j 0 j (earliest lines ranks i order (length lines / 2) j)
-          → ((earliest lines ranks i order (length lines / 2) j < j) × Earliest n lines ranks i order j (earliest lines ranks i order (length lines / 2) j))
-          ⊎ ((earliest lines ranks i order (length lines / 2) j ≡ j) × ((h : ℕ) → h < j → ¬ Beside n lines ranks i order j h))
+      go : FoundAt (isBeside j) (λ h. h) 0 j (firstBeside j) ⊎ FoundNone (isBeside j) (λ h. h) j 0 j (firstBeside j) → Searched j
       go (inl r) =
-          rw (r .is) (inl (omega (arith, r .below), record {
-            earlier = omega (arith, r .below);
-            beside = linked-beside j (r .place) (r .passes);
-            first = λ x l. unlinked x (r .earlier x (omega arith) l);
-          }))
+          rw (r .is) (inl (
+            omega (arith, r .below),
+            record {
+              earlier = omega (arith, r .below);
+              beside = linked-beside j (r .place) (r .passes);
+              first = λ x l. unlinked x (r .earlier x (omega arith) l);
+            },
+          ))
       go (inr r) = inr (r .is, λ h l. unlinked h (r .none h (omega arith) (omega arith)))
 
   -- there is at most one earliest

@@ -1,21 +1,21 @@
 -- An order whose entries are all good has each station once, and then every station has a position.
 -- The idea: the stations among the first j entries are counted, and there are j of them. Assumes nothing.
-use Prim.Native.Nat.{ℕ, zero, suc, _+_, _*_, _<_, _≤_}
+use Prim.Native.Nat.{ℕ, zero, suc, _*_, _<_, _≤_}
 use mathlib.Core.Path.{_≡_, refl, sym, _∙_}
-use mathlib.Core.Bool.{Bool, true, false, _||_, true≢false}
+use mathlib.Core.Bool.{Bool, true, false, _||_}
 use mathlib.Core.List.{List}
-use mathlib.Core.Logic.{_≢_, _⊎_, _⊎_.inl, _⊎_.inr}
+use mathlib.Core.Logic.{_≢_}
 use native.Mathlib.Decide.{decLt}
 use native.Mathlib.Numerals.{add-one}
 use native.Mathlib.Omega.{arith}
 use borrow.Author.Tests.{eqb-true, eq-eqb, ne-eqb}
 use lib.Dec.{eqb}
-use lib.ListN.{length, getD, take, drop, length-drop}
+use lib.ListN.{length, getD, drop, length-drop}
 use lib.Seq.{length-take-le}
 use Rattle.laws.specs.Fold.{anyFrom}
 use Rattle.laws.specs.Count.{count}
 use Rattle.laws.proofs.Count.{count-none, count-full, count-one-more}
-use Rattle.laws.proofs.Fold.{FoundAt, FoundNone, first-cases, first-last, first-at, any-some, any-more}
+use Rattle.laws.proofs.Fold.{first-last, first-at, any-some, any-more}
 use Rattle.laws.proofs.Lists.{part-fits}
 use Rattle.network.specs.Orders.{EachOnce}
 use Rattle.network.proofs.Ends.{or-true}

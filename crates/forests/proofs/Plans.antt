@@ -1,7 +1,7 @@
 -- THEOREMS. The check accepts just the plans that meet the published definition, and of any other it says the first fault.
 -- Assumes nothing.
 use Prim.Native.Nat.{ℕ, _+_, _*_, _/_, _<_, _≤_}
-use mathlib.Core.Path.{_≡_, refl, sym, ap, _∙_}
+use mathlib.Core.Path.{_≡_, sym, ap, _∙_}
 use mathlib.Core.Bool.{true≢false}
 use mathlib.Core.List.{List}
 use mathlib.Core.Logic.{_⊎_, _⊎_.inl, _⊎_.inr}
@@ -20,11 +20,9 @@ use Rattle.forests.proofs.Greedy.{RoundGood, good-meets, meets-good}
 use Rattle.forests.proofs.Faults.{rank-accepted, rank-faulty}
 use Rattle.forests.proofs.Rounds.{all-or-first, round-cases, good-accepted, round-faulty}
 
--- A round is accepted just where it meets the definition.
-module _ (n : ℕ) (lines ranks : List ℕ) (i : ℕ) (order : List ℕ) (s : Sound n lines) where
-  pub meets-accepted-round : RoundMeets n lines ranks i order → roundVerdict n lines ranks i order ≡ accepted
-  meets-accepted-round M = good-accepted n lines ranks i order (s .simple .proper) (meets-good n lines ranks i order (s .simple) M)
+-- ── a round ──
 
+module _ (n : ℕ) (lines ranks : List ℕ) (i : ℕ) (order : List ℕ) (s : Sound n lines) where
   round-meets-or-not : length order ≡ n → RoundMeets n lines ranks i order ⊎ ((kind : Kind) × (place : ℕ) × RoundFault n lines ranks i order kind place)
   round-meets-or-not size = go (round-cases n lines ranks i order (s .simple .proper) size)
     where
@@ -32,6 +30,19 @@ module _ (n : ℕ) (lines ranks : List ℕ) (i : ℕ) (order : List ℕ) (s : So
           → RoundMeets n lines ranks i order ⊎ ((kind : Kind) × (place : ℕ) × RoundFault n lines ranks i order kind place)
       go (inl G) = inl (good-meets n lines ranks i order (s .simple) G)
       go (inr f) = inr f
+
+  -- THEOREM. A round is accepted just where it meets the definition.
+  pub round-meets-accepted : RoundMeets n lines ranks i order → roundVerdict n lines ranks i order ≡ accepted
+  round-meets-accepted M = good-accepted n lines ranks i order (s .simple .proper) (meets-good n lines ranks i order (s .simple) M)
+
+  pub round-accepted-meets : length order ≡ n → roundVerdict n lines ranks i order ≡ accepted → RoundMeets n lines ranks i order
+  round-accepted-meets size e = go (round-meets-or-not size)
+    where
+      go : RoundMeets n lines ranks i order ⊎ ((kind : Kind) × (place : ℕ) × RoundFault n lines ranks i order kind place) → RoundMeets n lines ranks i order
+      go (inl M) = M
+      go (inr (kind, place, f)) = absurd (true≢false (ap isFaulty (sym (round-faulty n lines ranks i order (s .simple .proper) f) ∙ e)))
+
+-- ── the plan ──
 
 module _ (n k : ℕ) (lines ranks orders : List ℕ) where
   ranks-accepted : ((p : ℕ) → p < length lines / 2 → getD ranks p 0 ≤ k) → ranksVerdict k lines ranks ≡ accepted
@@ -49,13 +60,13 @@ module _ (n k : ℕ) (lines ranks orders : List ℕ) where
     said i = roundVerdict n lines ranks (i + 1) (orderOf n orders i)
 
     rounds-accepted : ((i : ℕ) → i < k → RoundMeets n lines ranks (i + 1) (orderOf n orders i)) → firstFrom isFaulty said accepted 0 k ≡ accepted
-    rounds-accepted meets = first-last isFaulty said accepted k (λ i l. rw (meets-accepted-round n lines ranks (i + 1) (orderOf n orders i) s (meets i l)))
+    rounds-accepted meets = first-last isFaulty said accepted k (λ i l. rw (round-meets-accepted n lines ranks (i + 1) (orderOf n orders i) s (meets i l)))
 
     rounds-faulty : {kind : Kind} {place : ℕ} (i : ℕ) → i < k → ((h : ℕ) → h < i → RoundMeets n lines ranks (h + 1) (orderOf n orders h))
         → RoundFault n lines ranks (i + 1) (orderOf n orders i) kind place → firstFrom isFaulty said accepted 0 k ≡ faulty (i + 1) kind place
     rounds-faulty i l before f =
         let bad = round-faulty n lines ranks (i + 1) (orderOf n orders i) (s .simple .proper) f in
-        first-at isFaulty said accepted k i l (rw bad) (λ h m. rw (meets-accepted-round n lines ranks (h + 1) (orderOf n orders h) s (before h m))) ∙ bad
+        first-at isFaulty said accepted k i l (rw bad) (λ h m. rw (round-meets-accepted n lines ranks (h + 1) (orderOf n orders h) s (before h m))) ∙ bad
 
     -- THEOREM. A plan that meets the definition is accepted.
     pub meets-accepted : PlanMeets n k lines ranks orders → planVerdict n k lines ranks orders ≡ accepted

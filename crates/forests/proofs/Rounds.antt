@@ -12,12 +12,11 @@ use Rattle.laws.proofs.Decide.{dec-and, dec-not, some-below}
 use Rattle.laws.proofs.Fold.{first-last, first-at}
 use Rattle.network.specs.Lines.{network, Proper}
 use Rattle.network.specs.Orders.{EachOnce}
-use Rattle.network.proofs.Chains.{hop-map}
 use Rattle.forests.specs.Verdicts.{Kind, Kind.B, Kind.C, Kind.D, Kind.E, Verdict.accepted, Verdict.faulty, isFaulty}
-use Rattle.forests.specs.Checking.{inPlay, entryVerdict, orderVerdict, earliest, stationVerdict, stationsVerdict, lineVerdict, linesVerdict, roundVerdict}
+use Rattle.forests.specs.Checking.{inPlay, entryVerdict, orderVerdict, stationVerdict, stationsVerdict, lineVerdict, linesVerdict, roundVerdict}
 use Rattle.forests.specs.Plans.{InPlay}
 use Rattle.forests.specs.Faults.{EntryGood, EntryFault, EntryFault.outside, EntryFault.stood, Beside, Tied, Earliest, StationGood, StationFault, StationFault.parent, StationFault.other, EndsJoined, RoundFault, RoundFault.entry, RoundFault.station, RoundFault.line}
-use Rattle.forests.proofs.Hops.{in-play, play-in, tied-or-not, earliest-cases, earliest-one}
+use Rattle.forests.proofs.Hops.{in-play, play-in, tied-or-not, firstBeside, Searched, searched, earliest-one}
 use Rattle.forests.proofs.Orders.{good-each-once, each-once-good}
 use Rattle.forests.proofs.Greedy.{RoundGood, ranked-playing}
 use Rattle.forests.proofs.Faults.{entry-accepted, entry-faulty, station-accepted, station-faulty, joined-or-not, line-accepted, line-faulty}
@@ -87,14 +86,10 @@ module _ (n : ℕ) (lines ranks : List ℕ) (i : ℕ) (order : List ℕ) where
       go (yes r) (inr none) = inl (record { parent = kept r; no-other = λ h l x. only none h l x (ℕ-discrete h e) })
 
   station-cases : (j : ℕ) → StationGood n lines ranks i order j ⊎ AnyFault j
-  station-cases j = go (earliest-cases n lines ranks i order j)
+  station-cases j = go (searched n lines ranks i order j)
     where
-      e : ℕ
-      e = earliest lines ranks i order (length lines / 2) j
-
-      go : ((e < j) × Earliest n lines ranks i order j e) ⊎ ((e ≡ j) × ((h : ℕ) → h < j → ¬ Beside n lines ranks i order j h))
-          → StationGood n lines ranks i order j ⊎ AnyFault j
-      go (inl (less, found)) = with-earliest j e found
+      go : Searched n lines ranks i order j → StationGood n lines ranks i order j ⊎ AnyFault j
+      go (inl (less, found)) = with-earliest j (firstBeside n lines ranks i order j) found
       go (inr (same, none)) = inl (alone-good j none)
 
   module _ (P : Proper (network n lines)) where

@@ -1,7 +1,7 @@
 -- The laws of hops and chains: turned round, put one after the other, and taken over to other hops.
 -- Assumes nothing.
 use Prim.Native.Nat.{ℕ, _<_}
-use mathlib.Core.Path.{_≡_, sym, _∙_}
+use mathlib.Core.Path.{sym, _∙_}
 use mathlib.Core.Logic.{_≢_}
 use Rattle.network.specs.Lines.{Network, Joins, Joins.forth, Joins.back, Proper}
 use Rattle.network.specs.Chains.{Hop, Hop.by, Chain, Chain.here, Chain.step}
