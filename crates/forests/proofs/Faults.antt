@@ -22,6 +22,7 @@ use Rattle.forests.specs.Faults.{EntryGood, EntryFault, EntryFault.outsi
 use Rattle.forests.proofs.Hops.{in-play, play-in, linked-tied, tied-linked, isTied, firstBeside, Searched, searched, earliest-one}
 use Rattle.forests.proofs.Trees.{tree, joined-tree, tree-joined}
 
+-- Two tests of which the second fails.
 and-false : (x : Bool) → (x && false) ≡ false
 and-false true = refl
 and-false false = refl
@@ -85,8 +86,7 @@ module _ (n : ℕ) (lines ranks : List ℕ) (i : ℕ) (order : List ℕ) (j : �
   unfolding parentVerdict hasParent
   parent-faulty h found bad = let (less, is) = is-earliest h found in rw (lt-ltb e j less, is, untied (tied h) refl)
     where
-      untied : (b : Bool) → tied h ≡ b
-          → tied h ≡ false
+      untied : (b : Bool) → tied h ≡ b → tied h ≡ false
       untied true x = absurd (bad (linked-tied n lines ranks i order j h x))
       untied false x = x
 
@@ -130,6 +130,7 @@ module _ (n : ℕ) (lines ranks : List ℕ) (i : ℕ) (order : List ℕ) (j : �
 module _ (n : ℕ) (lines ranks : List ℕ) (i : ℕ) (order : List ℕ) (P : Proper (network n lines)) (O : EachOnce n order)
     (good : (j : ℕ) → j < n → StationGood n lines ranks i order j) (p : ℕ) (here : p < length lines / 2)
   where
+    -- the trees of its ends
     abbrev one : ℕ
     one = tree n lines ranks i order (positionOf n order (endOne lines p))
 

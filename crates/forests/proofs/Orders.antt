@@ -27,6 +27,7 @@ pub order-size : (n k : ℕ) (orders : List ℕ) (i : ℕ) → k * n ≤ length 
 unfolding orderOf
 order-size n k orders i room h = length-take-le n (drop (i * n) orders) (simp length-drop (omega (arith, part-fits i k n h)))
 
+-- Two tests of which the second fails.
 or-false : (x : Bool) → (x || false) ≡ x
 or-false true = refl
 or-false false = refl

@@ -16,18 +16,21 @@ use Rattle.forests.specs.Checking.{rankVerdict, ranksVerdict, roundVerdi
 use Rattle.forests.specs.Plans.{RoundMeets, PlanMeets}
 use Rattle.forests.specs.Faults.{RoundFault, FirstFault, FirstFault.rank, FirstFault.round}
 use Rattle.forests.proofs.Orders.{order-size}
-use Rattle.forests.proofs.Greedy.{RoundGood, good-meets, meets-good}
+use Rattle.forests.proofs.Greedy.{good-meets, meets-good}
 use Rattle.forests.proofs.Faults.{rank-accepted, rank-faulty}
-use Rattle.forests.proofs.Rounds.{all-or-first, round-cases, good-accepted, round-faulty}
+use Rattle.forests.proofs.Rounds.{all-or-first, RoundCases, round-cases, good-accepted, round-faulty}
 
 -- ── a round ──
 
 module _ (n : ℕ) (lines ranks : List ℕ) (i : ℕ) (order : List ℕ) (s : Sound n lines) where
-  round-meets-or-not : length order ≡ n → RoundMeets n lines ranks i order ⊎ ((kind : Kind) × (place : ℕ) × RoundFault n lines ranks i order kind place)
+  abbrev AnyFault : Type 0
+  AnyFault = (kind : Kind) × (place : ℕ) × RoundFault n lines ranks i order kind place
+
+  -- a round meets the definition, or has a first fault
+  round-meets-or-not : length order ≡ n → RoundMeets n lines ranks i order ⊎ AnyFault
   round-meets-or-not size = go (round-cases n lines ranks i order (s .simple .proper) size)
     where
-      go : RoundGood n lines ranks i order ⊎ ((kind : Kind) × (place : ℕ) × RoundFault n lines ranks i order kind place)
-          → RoundMeets n lines ranks i order ⊎ ((kind : Kind) × (place : ℕ) × RoundFault n lines ranks i order kind place)
+      go : RoundCases n lines ranks i order → RoundMeets n lines ranks i order ⊎ AnyFault
       go (inl G) = inl (good-meets n lines ranks i order (s .simple) G)
       go (inr f) = inr f
 
@@ -38,7 +41,7 @@ module _ (n : ℕ) (lines ranks : List ℕ) (i : ℕ) (order : List ℕ) (s : So
   pub round-accepted-meets : length order ≡ n → roundVerdict n lines ranks i order ≡ accepted → RoundMeets n lines ranks i order
   round-accepted-meets size e = go (round-meets-or-not size)
     where
-      go : RoundMeets n lines ranks i order ⊎ ((kind : Kind) × (place : ℕ) × RoundFault n lines ranks i order kind place) → RoundMeets n lines ranks i order
+      go : RoundMeets n lines ranks i order ⊎ AnyFault → RoundMeets n lines ranks i order
       go (inl M) = M
       go (inr (kind, place, f)) = absurd (true≢false (ap isFaulty (sym (round-faulty n lines ranks i order (s .simple .proper) f) ∙ e)))
 
@@ -55,7 +58,12 @@ module _ (n k : ℕ) (lines ranks orders : List ℕ) where
       first-at isFaulty (rankVerdict k ranks) accepted (length lines / 2) p l (rw (rank-faulty k ranks p h)) (λ q m. rw (rank-accepted k ranks q (before q m)))
       ∙ rank-faulty k ranks p h
 
+  -- what is to be decided: a plan meets the definition, or has a first fault
+  abbrev PlanCases : Type 0
+  PlanCases = PlanMeets n k lines ranks orders ⊎ ((r : ℕ) × (kind : Kind) × (place : ℕ) × FirstFault n k lines ranks orders r kind place)
+
   module _ (s : Sound n lines) where
+    -- what the check says of the round after i others
     abbrev said : ℕ → Verdict
     said i = roundVerdict n lines ranks (i + 1) (orderOf n orders i)
 
@@ -79,40 +87,34 @@ module _ (n k : ℕ) (lines ranks orders : List ℕ) where
     fault-faulty (rank p l before h) = rw (ranks-faulty p l before h)
     fault-faulty (round most i l before f) = rw (ranks-accepted most, rounds-faulty i l before f)
 
-    -- a plan meets the definition, or has a first fault
-    plan-cases : k * n ≤ length orders
-        → PlanMeets n k lines ranks orders ⊎ ((r : ℕ) × (kind : Kind) × (place : ℕ) × FirstFault n k lines ranks orders r kind place)
+    plan-cases : k * n ≤ length orders → PlanCases
     plan-cases room = in-ranks (all-or-first (λ p. getD ranks p 0 ≤ k) (λ p. k < getD ranks p 0) (length lines / 2) (λ p l. ranked p (decLe (getD ranks p 0) k)))
       where
         ranked : (p : ℕ) → Dec (getD ranks p 0 ≤ k) → (getD ranks p 0 ≤ k) ⊎ (k < getD ranks p 0)
         ranked p (yes h) = inl h
         ranked p (no m) = inr (omega arith)
 
-        AnyFault : ℕ → Type 0
-        AnyFault i = (kind : Kind) × (place : ℕ) × RoundFault n lines ranks (i + 1) (orderOf n orders i) kind place
-
         in-rounds : ((p : ℕ) → p < length lines / 2 → getD ranks p 0 ≤ k)
             → ((i : ℕ) → i < k → RoundMeets n lines ranks (i + 1) (orderOf n orders i))
-            ⊎ ((i : ℕ) × (i < k) × ((h : ℕ) → h < i → RoundMeets n lines ranks (h + 1) (orderOf n orders h)) × AnyFault i)
-            → PlanMeets n k lines ranks orders ⊎ ((r : ℕ) × (kind : Kind) × (place : ℕ) × FirstFault n k lines ranks orders r kind place)
+            ⊎ ((i : ℕ) × (i < k) × ((h : ℕ) → h < i → RoundMeets n lines ranks (h + 1) (orderOf n orders h)) × AnyFault n lines ranks (i + 1) (orderOf n orders i) s)
+            → PlanCases
         in-rounds most (inl meets) = inl (record { ranks-most = most; rounds = meets })
         in-rounds most (inr (i, l, before, f)) = inr (i + 1, f .0, f .1, round most i l before (f .2))
 
         in-ranks : ((p : ℕ) → p < length lines / 2 → getD ranks p 0 ≤ k)
             ⊎ ((p : ℕ) × (p < length lines / 2) × ((q : ℕ) → q < p → getD ranks q 0 ≤ k) × (k < getD ranks p 0))
-            → PlanMeets n k lines ranks orders ⊎ ((r : ℕ) × (kind : Kind) × (place : ℕ) × FirstFault n k lines ranks orders r kind place)
+            → PlanCases
         in-ranks (inr (p, l, before, h)) = inr (0, A, p, rank p l before h)
         in-ranks (inl most) =
             in-rounds most
-            (all-or-first (λ i. RoundMeets n lines ranks (i + 1) (orderOf n orders i)) AnyFault k
+            (all-or-first (λ i. RoundMeets n lines ranks (i + 1) (orderOf n orders i)) (λ i. AnyFault n lines ranks (i + 1) (orderOf n orders i) s) k
             (λ i l. round-meets-or-not n lines ranks (i + 1) (orderOf n orders i) s (order-size n k orders i room l)))
 
     -- THEOREM. What is accepted meets the definition.
     pub accepted-meets : k * n ≤ length orders → planVerdict n k lines ranks orders ≡ accepted → PlanMeets n k lines ranks orders
     accepted-meets room e = go (plan-cases room)
       where
-        go : PlanMeets n k lines ranks orders ⊎ ((r : ℕ) × (kind : Kind) × (place : ℕ) × FirstFault n k lines ranks orders r kind place)
-            → PlanMeets n k lines ranks orders
+        go : PlanCases → PlanMeets n k lines ranks orders
         go (inl M) = M
         go (inr (r, kind, place, f)) = absurd (true≢false (ap isFaulty (sym (fault-faulty f) ∙ e)))
 
@@ -121,8 +123,7 @@ module _ (n k : ℕ) (lines ranks orders : List ℕ) where
         → FirstFault n k lines ranks orders r kind place
     faulty-fault {r} {kind} {place} room e = go (plan-cases room)
       where
-        go : PlanMeets n k lines ranks orders ⊎ ((r : ℕ) × (kind : Kind) × (place : ℕ) × FirstFault n k lines ranks orders r kind place)
-            → FirstFault n k lines ranks orders r kind place
+        go : PlanCases → FirstFault n k lines ranks orders r kind place
         go (inl M) = absurd (true≢false (ap isFaulty (sym e ∙ meets-accepted M)))
         go (inr (r′, kind′, place′, f)) =
             let same : faulty r′ kind′ place′ ≡ faulty r kind place = sym (fault-faulty f) ∙ e in

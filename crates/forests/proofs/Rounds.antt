@@ -48,7 +48,12 @@ entry-cases n order j = go (decLe n (getD order j 0)) (some-below (λ h. getD or
     go (no m) (inl (h, l, e)) = inr (stood h l e)
     go (no m) (inr new) = inl (record { station = omega arith; new = new })
 
+-- What is to be decided: a round is without a fault, or has a first one.
+abbrev pub RoundCases : ℕ → List ℕ → List ℕ → ℕ → List ℕ → Type 0
+RoundCases n lines ranks i order = RoundGood n lines ranks i order ⊎ ((kind : Kind) × (place : ℕ) × RoundFault n lines ranks i order kind place)
+
 module _ (n : ℕ) (lines ranks : List ℕ) (i : ℕ) (order : List ℕ) where
+  -- the station at position j has a fault of some kind
   abbrev AnyFault : ℕ → Type 0
   AnyFault j = (kind : Kind) × StationFault n lines ranks i order j kind
 
@@ -105,30 +110,27 @@ module _ (n : ℕ) (lines ranks : List ℕ) (i : ℕ) (order : List ℕ) where
         go false h (no m) = inl (λ x. absurd (true≢false (sym (play-in ranks i p x) ∙ h)))
 
     -- THEOREM. A round is without a fault, or has a first one.
-    pub round-cases : length order ≡ n → RoundGood n lines ranks i order ⊎ ((kind : Kind) × (place : ℕ) × RoundFault n lines ranks i order kind place)
+    pub round-cases : length order ≡ n → RoundCases n lines ranks i order
     round-cases size = entries (all-or-first (EntryGood n order) (EntryFault n order) n (λ j l. entry-cases n order j))
       where
-        Answer : Type 0
-        Answer = RoundGood n lines ranks i order ⊎ ((kind : Kind) × (place : ℕ) × RoundFault n lines ranks i order kind place)
-
         in-lines : (O : EachOnce n order) (good : (j : ℕ) → j < n → StationGood n lines ranks i order j)
             → ((p : ℕ) → p < length lines / 2 → InPlay ranks i p → EndsJoined n lines ranks i p)
             ⊎ ((p : ℕ) × (p < length lines / 2) × ((q : ℕ) → q < p → InPlay ranks i q → EndsJoined n lines ranks i q) × (InPlay ranks i p × ¬ EndsJoined n lines ranks i p))
-            → Answer
+            → RoundCases n lines ranks i order
         in-lines O good (inl ends) = inl (record { each-once = O; stations = good; ends = ends })
         in-lines O good (inr (p, l, before, f)) = inr (E, p, line O good p l before (f .0) (f .1))
 
         stations : EachOnce n order
             → ((j : ℕ) → j < n → StationGood n lines ranks i order j)
             ⊎ ((j : ℕ) × (j < n) × ((h : ℕ) → h < j → StationGood n lines ranks i order h) × AnyFault j)
-            → Answer
+            → RoundCases n lines ranks i order
         stations O (inl good) =
             in-lines O good
             (all-or-first (λ p. InPlay ranks i p → EndsJoined n lines ranks i p) (λ p. InPlay ranks i p × ¬ EndsJoined n lines ranks i p) (length lines / 2)
             (line-cases O good))
         stations O (inr (j, l, before, f)) = inr (f .0, getD order j 0, station O j l before (f .1))
 
-        entries : ((j : ℕ) → j < n → EntryGood n order j) ⊎ ((j : ℕ) × (j < n) × ((h : ℕ) → h < j → EntryGood n order h) × EntryFault n order j) → Answer
+        entries : ((j : ℕ) → j < n → EntryGood n order j) ⊎ ((j : ℕ) × (j < n) × ((h : ℕ) → h < j → EntryGood n order h) × EntryFault n order j) → RoundCases n lines ranks i order
         entries (inl good) =
             stations (good-each-once n order good size) (all-or-first (StationGood n lines ranks i order) AnyFault n (λ j l. station-cases j))
         entries (inr (j, l, before, f)) = inr (B, j, entry j l before f)

@@ -22,6 +22,7 @@ use Rattle.forests.specs.Faults.{Beside, Tied, Earliest, StationGood}
 use Rattle.forests.proofs.Hops.{firstBeside, Searched, searched, earliest-one}
 use Rattle.forests.proofs.Orders.{position-order, position-below, order-position}
 
+-- The last entry, after j others.
 last-at : (front : List ℕ) (v j : ℕ) → length front ≡ j → getD (front ++ (v ∷ [])) j 0 ≡ v
 last-at front v j e = rw (← e) (getD-append-seam front v [] 0)
 
@@ -48,8 +49,7 @@ module _ (n : ℕ) (lines ranks : List ℕ) (i : ℕ) (order : List ℕ) where
   unfolding treesOf upTo addTree
   tree-kept count j h = List·getD-append (trees count) _ 0 j (omega (arith, trees-size count))
 
-  tree-new : (j : ℕ) → getD (trees (suc j)) j 0
-      ≡ pick (ltb (e j) j) (getD (trees j) (e j) 0) j
+  tree-new : (j : ℕ) → getD (trees (suc j)) j 0 ≡ pick (ltb (e j) j) (getD (trees j) (e j) 0) j
   unfolding treesOf upTo addTree
   tree-new j = last-at (trees j) _ j (trees-size j)
 
