@@ -23,14 +23,14 @@ use Rattle.network.proofs.Judging.{ends-good}
 
 module _ (n : ℕ) (lines : List ℕ) where
   -- line q has the ends a and b, as the test says it and as the type says it
-  joins-same : (q a b : ℕ) → sameEnds a b (endOne lines q) (endTwo lines q) ≡ true → Joins (network n lines) q a b
+  pub joins-same : (q a b : ℕ) → sameEnds a b (endOne lines q) (endTwo lines q) ≡ true → Joins (network n lines) q a b
   joins-same q a b e = go (same-ends a b (endOne lines q) (endTwo lines q) e)
     where
       go : ((a ≡ endOne lines q) × (b ≡ endTwo lines q)) ⊎ ((a ≡ endTwo lines q) × (b ≡ endOne lines q)) → Joins (network n lines) q a b
       go (inl (x, y)) = forth (sym x) (sym y)
       go (inr (x, y)) = back (sym y) (sym x)
 
-  same-joins : (q a b : ℕ) → Joins (network n lines) q a b → sameEnds a b (endOne lines q) (endTwo lines q) ≡ true
+  pub same-joins : (q a b : ℕ) → Joins (network n lines) q a b → sameEnds a b (endOne lines q) (endTwo lines q) ≡ true
   same-joins q a b (forth x y) = ends-same a b (endOne lines q) (endTwo lines q) (inl (sym x, sym y))
   same-joins q a b (back x y) = ends-same a b (endOne lines q) (endTwo lines q) (inr (sym y, sym x))
 
