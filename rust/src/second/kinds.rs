@@ -51,7 +51,11 @@ impl Refusal {
 
 /// Refuses unless the condition holds.
 pub fn require(holds: bool, refusal: Refusal) -> Result<(), Refusal> {
-    if holds { Ok(()) } else { Err(refusal) }
+    if holds {
+        Ok(())
+    } else {
+        Err(refusal)
+    }
 }
 
 /// What the check of forests says of a plan that is not refused.

@@ -1,0 +1,85 @@
+//! How often each answer comes up: the comparison is worth what its cases reach.
+
+use crate::plan::PLANS;
+use crate::program::{self, ROUTINES};
+use crate::{cases, network::SHAPES};
+use std::collections::{BTreeMap, BTreeSet};
+use tapuhzel::second::check::check;
+use tapuhzel::second::kinds::{Fault, FaultKind, Refusal, Verdict};
+
+/// The refusals of each routine, by the document.
+const REFUSALS: [(&str, &[u8]); 9] = [
+    ("judge", &[1, 2, 6, 7, 8]),
+    ("prune", &[1, 2, 3, 4, 5, 6, 7, 8, 9]),
+    ("check", &[1, 2, 3, 5, 6, 7, 8]),
+    ("copy", &[2, 5]),
+    ("unite", &[1, 2, 5, 6, 7, 8, 13]),
+    ("joined", &[1, 2, 6, 7, 8, 10, 11]),
+    ("weak", &[1, 2, 6, 7, 8, 12]),
+    ("read", &[2, 4, 5, 20, 21, 22, 23]),
+    ("write", &[1, 2, 3, 4, 5, 6, 7, 8, 9]),
+];
+
+#[test]
+fn every_refusal_comes_up() {
+    let second = program::second();
+    let mut found: BTreeMap<&str, BTreeMap<u8, usize>> = BTreeMap::new();
+    for (_, case) in cases() {
+        for routine in &ROUTINES {
+            if let Some(Err(refusal)) = (routine.outcome)(&second, &case).map(|outcome| outcome.answer) {
+                *found.entry(routine.name).or_default().entry(refusal.number).or_default() += 1;
+            }
+        }
+    }
+    println!("| Routine | Refusals, each with how often |\n|---|---|");
+    for (routine, expected) in REFUSALS {
+        let counts = &found[routine];
+        let listed: Vec<String> = counts.iter().map(|(number, count)| format!("{number}: {count}")).collect();
+        println!("| {routine} | {} |", listed.join(", "));
+        assert_eq!(counts.keys().copied().collect::<BTreeSet<_>>(), expected.iter().copied().collect(), "{routine}");
+    }
+}
+
+/// What the check may answer, and its column in the table.
+const VERDICTS: [&str; 7] = ["accepted", "A", "B", "C", "D", "E", "refused"];
+
+fn column(verdict: &Result<Verdict, Refusal>) -> usize {
+    match verdict {
+        Ok(Verdict::Accepted) => 0,
+        Ok(Verdict::Faulty(Fault { kind, .. })) => match kind {
+            FaultKind::A(_) => 1,
+            FaultKind::B(_) => 2,
+            FaultKind::C(_) => 3,
+            FaultKind::D(_) => 4,
+            FaultKind::E(_) => 5,
+        },
+        Err(_) => 6,
+    }
+}
+
+#[test]
+fn every_verdict_comes_up() {
+    let mut found: BTreeMap<&str, [usize; 7]> = BTreeMap::new();
+    for (_, case) in cases() {
+        let verdict = check(case.n, case.level, &case.lines, &case.plan.ranks, &case.plan.orders);
+        found.entry(case.plan_kind).or_default()[column(&verdict)] += 1;
+    }
+    println!("| Plan | {} |\n|---{}|", VERDICTS.join(" | "), "|---:".repeat(7));
+    for (kind, _) in PLANS {
+        println!("| {kind} | {} |", found[kind].map(|count| count.to_string()).join(" | "));
+    }
+    for (column, verdict) in VERDICTS.iter().enumerate() {
+        let count: usize = found.values().map(|counts| counts[column]).sum();
+        assert!(count >= 1_000, "{verdict} comes up {count} times");
+    }
+}
+
+#[test]
+fn every_shape_comes_up() {
+    let mut found: BTreeMap<&str, usize> = BTreeMap::new();
+    cases().for_each(|(_, case)| *found.entry(case.shape).or_default() += 1);
+    println!("| Shape | Networks |\n|---|---:|");
+    found.iter().for_each(|(shape, count)| println!("| {shape} | {count} |"));
+    assert!(SHAPES.iter().all(|(shape, _)| found[shape] >= 1_000));
+    assert!(found.values().sum::<usize>() >= 100_000);
+}
