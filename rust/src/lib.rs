@@ -3,6 +3,7 @@
 //! Every input is taken or refused by a numbered reason and a place; no call panics.
 
 mod ffi;
+pub mod listing;
 pub mod second;
 
 /// The place of a line in its list, counted from 0.
