@@ -55,12 +55,13 @@ pub fn case(seed: u64) -> Case {
     case
 }
 
-/// Mostly few stations, since small networks show most errors.
+/// Mostly few stations, since small networks show most errors, and soon.
 fn station_count(random: &mut Random) -> usize {
-    match random.below(200) {
-        0 => random.within(13, 60),
-        1..=20 => random.within(8, 12),
-        _ => random.within(1, 7),
+    match random.below(100) {
+        0 => random.within(17, 60),
+        1..=19 => random.within(10, 16),
+        20..=79 => random.within(5, 9),
+        _ => random.within(1, 4),
     }
 }
 

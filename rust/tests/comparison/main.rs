@@ -18,7 +18,7 @@ use program::{Outcome, Program, Routine, ROUTINES};
 use smallest::smallest;
 
 /// So many networks are drawn, beside those at the limits.
-const NETWORKS: u64 = 120_000;
+const NETWORKS: u64 = 150_000;
 
 /// The second program with one edit each, and the list of them.
 mod broken {

@@ -96,10 +96,16 @@ fn two_entries_exchanged(random: &mut Random, sound: &Sound, mut plan: Plan) -> 
     plan
 }
 
+/// Ranks of 0 to k and orders with each station once, but for one rank or entry in some plans.
 fn random_plan(random: &mut Random, sound: &Sound) -> Plan {
     let ranks = (0..sound.lines.len() / 2).map(|_| random.below(sound.level + 1) as u8).collect();
     let orders = (0..sound.level).flat_map(|_| random_order(random, sound, &[])).collect();
-    Plan { ranks, orders }
+    let plan = Plan { ranks, orders };
+    match random.below(4) {
+        0 => one_rank_changed(random, sound, plan),
+        1 => one_entry_changed(random, sound, plan),
+        _ => plan,
+    }
 }
 
 /// A plan with an order drawn for each round: each station's line to its earliest earlier neighbour gets the rank.

@@ -75,11 +75,14 @@ fn every_verdict_comes_up() {
 }
 
 #[test]
-fn every_shape_comes_up() {
-    let mut found: BTreeMap<&str, usize> = BTreeMap::new();
-    cases().for_each(|(_, case)| *found.entry(case.shape).or_default() += 1);
-    println!("| Shape | Networks |\n|---|---:|");
-    found.iter().for_each(|(shape, count)| println!("| {shape} | {count} |"));
-    assert!(SHAPES.iter().all(|(shape, _)| found[shape] >= 1_000));
-    assert!(found.values().sum::<usize>() >= 100_000);
+fn enough_networks_of_every_shape_come_up() {
+    let mut found: BTreeMap<&str, BTreeSet<(usize, Vec<u16>)>> = BTreeMap::new();
+    for (_, case) in cases() {
+        found.entry(case.shape).or_default().insert((case.n, case.lines));
+    }
+    println!("| Shape | Different networks |\n|---|---:|");
+    found.iter().for_each(|(shape, networks)| println!("| {shape} | {} |", networks.len()));
+    let empty_or_named = ["empty", "every length", "limit"];
+    assert!(SHAPES.iter().all(|(shape, _)| found[shape].len() >= 5_000 || empty_or_named.contains(shape)));
+    assert!(found.values().map(BTreeSet::len).sum::<usize>() >= 100_000);
 }
