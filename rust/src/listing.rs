@@ -95,7 +95,7 @@ impl Listed {
                 self.starts.push(start);
                 self.start_origins.push(text_line);
             }),
-            _ => Err(format!("expected 'stations', 'level', 'line' or 'start', found '{word}'")),
+            _ => Err(format!("expected 'stations', 'level', 'line' or 'start', found '{}'", shown(word))),
         };
         added.map_err(|message| Mistake { text_line: Some(text_line), message })
     }
@@ -141,7 +141,12 @@ fn numbers<const COUNT: usize>(word: &str, rest: &[&str]) -> Result<[u16; COUNT]
 }
 
 fn number(text: &str) -> Result<u16, String> {
-    text.parse().map_err(|_| format!("expected a number from 0 to 65535, found '{text}'"))
+    text.parse().map_err(|_| format!("expected a number from 0 to 65535, found '{}'", shown(text)))
+}
+
+/// The beginning of a word, with nothing in it that a terminal takes for more than letters.
+fn shown(word: &str) -> String {
+    word.chars().take(40).flat_map(char::escape_debug).collect()
 }
 
 /// A refusal in words.
@@ -215,6 +220,7 @@ mod tests {
     #[test]
     fn garbage_is_named() {
         assert_eq!(mistake("relay 3"), "text line 1: expected 'stations', 'level', 'line' or 'start', found 'relay'");
+        assert!(mistake("\0\u{1b}[2J").ends_with("found '\\0\\u{1b}[2J'"));
         assert_eq!(mistake("\nline 0"), "text line 2: expected two numbers after 'line', found 1");
         assert_eq!(mistake("line 0 1 2"), "text line 1: expected two numbers after 'line', found 3");
         assert_eq!(mistake("start -1"), "text line 1: expected a number from 0 to 65535, found '-1'");

@@ -4,6 +4,7 @@ use super::judge::{judge_length, judge_lines, judge_stations, lines_of};
 use super::kinds::{require, Fault, FaultKind, Place, Position, Refusal, Round, Station, Verdict};
 use super::neighbours::Neighbours;
 use super::request::judge_level;
+use std::collections::HashSet;
 
 /// Checks ranks and orders, from wherever they come: tries 1, 2, 3, 5, the lines, then the faults.
 pub fn check(n: usize, level: usize, lines: &[u16], ranks: &[u8], orders: &[u16]) -> Result<Verdict, Refusal> {
@@ -42,13 +43,9 @@ fn round_fault(neighbours: &Neighbours, lines: &[u16], ranks: &[u8], round: Roun
 
 /// The first position whose entry is n or more or stood before, n being the number of entries.
 fn not_each_once(order: &[u16]) -> Option<Position> {
-    let mut stood = vec![false; order.len()];
-    let stands_right = |&entry: &u16| match stood.get_mut(Station(entry).index()) {
-        Some(before) => !std::mem::replace(before, true),
-        None => false,
-    };
-    let right = order.iter().map(stands_right).position(|right| !right);
-    right.map(Position)
+    let mut stood = HashSet::with_capacity(order.len());
+    let first = order.iter().position(|&entry| Station(entry).index() >= order.len() || !stood.insert(entry));
+    first.map(Position)
 }
 
 /// A round's lines and its order, once that is each station once.

@@ -26,7 +26,7 @@ pub struct Case {
 }
 
 /// How much longer each written buffer is than what is needed; shorter where it is below 0.
-#[derive(Clone, Copy, Debug, Default)]
+#[derive(Clone, Copy, Debug, Default, PartialEq)]
 pub struct Spare {
     pub ranks: isize,
     pub orders: isize,

@@ -66,7 +66,7 @@ fn proved_and_second_agree() {
     let case = smallest_shown(&found, &proved, &second);
     let [said, right] = [proved, second].map(|program| (found.routine.outcome)(&program, &case));
     let Difference { routine: Routine { name, .. }, origin, .. } = found;
-    panic!("{name} differs at {origin}; the smallest case is\n{case:#?}\nproved: {said:?}\nsecond: {right:?}");
+    panic!("{name} differs at {origin}; the smallest case is\n{case:?}\nproved: {said:?}\nsecond: {right:?}");
 }
 
 #[test]

@@ -1,6 +1,6 @@
 //! The smallest case that still shows a difference.
 
-use crate::case::Case;
+use crate::case::{Case, Spare};
 use std::time::{Duration, Instant};
 
 /// A case at the limits may have more smaller ones than are worth the wait.
@@ -60,6 +60,7 @@ fn smaller_cases(case: &Case) -> impl Iterator<Item = Case> + '_ {
         .chain(fewer_away)
         .chain(stations.map(|gone| without_station(case, gone)))
         .chain(without_last_round(case))
+        .chain(with_exact_room(case))
         .chain([fewer_starts, fewer_ranks, fewer_entries, odd_number, odd_second].into_iter().flatten())
 }
 
@@ -108,6 +109,12 @@ fn without_station(case: &Case, gone: u16) -> Case {
     [lines, second, starts, away, &mut plan.orders].into_iter().flatten().for_each(close_up);
     [a, b].into_iter().for_each(close_up);
     smaller
+}
+
+/// The case with room that is just enough everywhere.
+fn with_exact_room(case: &Case) -> Option<Case> {
+    let exact = Spare::default();
+    (case.spare != exact).then(|| Case { spare: exact, ..case.clone() })
 }
 
 /// The case at one level less.
