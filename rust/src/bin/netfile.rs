@@ -8,8 +8,8 @@
 //! network-file draw STATIONS LINES LEVEL SEED > x.txt     a text list drawn from a seed
 //! ```
 //!
-//! A text list has a line `stations N`, a line `level K`, `line A B` for each line of the network, and `start S` for each
-//! round's starting station; # begins a comment.
+//! A text list has a line `stations N`, a line `level K`, `line A B` for each line of the network, and `start S` for
+//! each round's starting station; # begins a comment.
 
 use std::io::{Read, Write};
 use std::process::ExitCode;

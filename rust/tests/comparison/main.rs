@@ -17,8 +17,8 @@ use case::{case, Case};
 use program::{Outcome, Program, Routine, ROUTINES};
 use smallest::smallest;
 
-/// So many networks are drawn, beside those at the limits.
-const NETWORKS: u64 = 150_000;
+/// So many cases are drawn, beside those with names: enough for 100,000 different networks that the judge takes.
+const CASES: u64 = 185_000;
 
 /// The second program with one edit each, and the list of them.
 mod broken {
@@ -31,7 +31,7 @@ mod broken {
 fn cases() -> impl Iterator<Item = (String, Case)> {
     let drawn = |seed| (format!("seed {seed}"), case(seed));
     let named = || lengths::cases().into_iter().chain(limits::cases());
-    (0..5_000).map(drawn).chain(std::iter::once_with(named).flatten()).chain((5_000..NETWORKS).map(drawn))
+    (0..5_000).map(drawn).chain(std::iter::once_with(named).flatten()).chain((5_000..CASES).map(drawn))
 }
 
 /// A case of which two programs make something different by a routine.
