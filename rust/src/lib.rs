@@ -3,6 +3,8 @@
 //! Every input is taken or refused by a numbered reason and a place; no call panics.
 
 mod ffi;
+pub mod listing;
+pub mod second;
 
 /// The place of a line in its list, counted from 0.
 #[derive(Clone, Copy, Debug, PartialEq, Eq, PartialOrd, Ord)]
@@ -35,20 +37,46 @@ pub enum Refusal {
     StartOutside(Round),
 }
 
-/// The refusal of a number and a place, as the routines here give them.
+impl Refusal {
+    /// The number of the document's row.
+    pub fn number(self) -> u8 {
+        match self {
+            Refusal::StationCount => 1,
+            Refusal::LineCount => 2,
+            Refusal::LevelRange => 3,
+            Refusal::StartCount => 4,
+            Refusal::Room => 5,
+            Refusal::EndOutside(_) => 6,
+            Refusal::EndsEqual(_) => 7,
+            Refusal::StoodEarlier(_) => 8,
+            Refusal::StartOutside(_) => 9,
+        }
+    }
+
+    /// The place that the document gives with the number: a line's place or a round, else 0.
+    pub fn place(self) -> usize {
+        match self {
+            Refusal::EndOutside(Place(place)) | Refusal::EndsEqual(Place(place)) | Refusal::StoodEarlier(Place(place)) => place.into(),
+            Refusal::StartOutside(Round(round)) => round.into(),
+            _ => 0,
+        }
+    }
+}
+
+/// The refusal of a number, a place and a list, as the routines here give them.
 fn refusal(said: ffi::Said) -> Refusal {
     let place = Place(said.place as u16);
-    match said.number {
-        1 => Refusal::StationCount,
-        2 => Refusal::LineCount,
-        3 => Refusal::LevelRange,
-        4 => Refusal::StartCount,
-        5 => Refusal::Room,
-        6 => Refusal::EndOutside(place),
-        7 => Refusal::EndsEqual(place),
-        8 => Refusal::StoodEarlier(place),
-        9 => Refusal::StartOutside(Round(said.place as u8)),
-        number => unreachable!("no routine here refuses by {number} (list {})", said.list),
+    match (said.number, said.list) {
+        (1, 0) => Refusal::StationCount,
+        (2, 0) => Refusal::LineCount,
+        (3, 0) => Refusal::LevelRange,
+        (4, 0) => Refusal::StartCount,
+        (5, 0) => Refusal::Room,
+        (6, 0) => Refusal::EndOutside(place),
+        (7, 0) => Refusal::EndsEqual(place),
+        (8, 0) => Refusal::StoodEarlier(place),
+        (9, 0) => Refusal::StartOutside(Round(said.place as u8)),
+        (number, list) => unreachable!("no routine here refuses by {number} (list {list})"),
     }
 }
 
