@@ -5,3 +5,6 @@ pub mod Greedy
 pub mod Faults
 pub mod Rounds
 pub mod Plans
+pub mod Placing
+pub mod Seeing
+pub mod Tables

@@ -45,11 +45,11 @@ module _ (n : ℕ) (lines ranks : List ℕ) (i : ℕ) (order : List ℕ) where
   trees-size (suc count) = simp length-append (omega (arith, trees-size count))
 
   -- one tree more leaves the others as they were
-  tree-kept : (count j : ℕ) → j < count → getD (trees (suc count)) j 0 ≡ getD (trees count) j 0
+  pub tree-kept : (count j : ℕ) → j < count → getD (trees (suc count)) j 0 ≡ getD (trees count) j 0
   unfolding treesOf upTo addTree
   tree-kept count j h = List·getD-append (trees count) _ 0 j (omega (arith, trees-size count))
 
-  tree-new : (j : ℕ) → getD (trees (suc j)) j 0 ≡ pick (ltb (e j) j) (getD (trees j) (e j) 0) j
+  pub tree-new : (j : ℕ) → getD (trees (suc j)) j 0 ≡ pick (ltb (e j) j) (getD (trees j) (e j) 0) j
   unfolding treesOf upTo addTree
   tree-new j = last-at (trees j) _ j (trees-size j)
 

@@ -3,3 +3,5 @@ pub mod Checking
 pub mod Published
 pub mod Plans
 pub mod Faults
+pub mod Answers
+pub mod Tables
