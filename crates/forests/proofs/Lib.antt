@@ -5,6 +5,8 @@ pub mod Greedy
 pub mod Faults
 pub mod Rounds
 pub mod Plans
+pub mod Verdicts
+pub mod Judging
 pub mod Placing
 pub mod Seeing
 pub mod Tables

@@ -1,21 +1,22 @@
 -- What the table of positions tells: whether an entry stood before, and the table with one entry more.
 -- Assumes nothing.
+
+-- The search for the lowest number, with one number more that passes, or that does not.
 use Prim.Native.Nat.{ℕ, _+_, _<_, _≤_}
-use mathlib.Core.Path.{_≡_, refl, sym, _∙_}
-use mathlib.Core.Bool.{Bool, true, false, true≢false}
+use mathlib.Core.Path.{_≡_, sym, _∙_}
+use mathlib.Core.Bool.{Bool, true, false}
 use mathlib.Core.List.{List}
-use mathlib.Core.Logic.{_≢_, _⊎_, _⊎_.inl, _⊎_.inr}
+use mathlib.Core.Logic.{_⊎_, _⊎_.inl, _⊎_.inr}
 use native.Mathlib.Decide.{ℕ-discrete, decLt}
 use native.Mathlib.Omega.{arith}
 use borrow.Author.Tests.{eq-eqb, ne-eqb}
 use lib.Dec.{eqb}
 use lib.ListN.{length, getD, set, length-set}
 use lib.Seq.{getD-set-same, getD-set-other}
-use Rattle.laws.specs.Fold.{firstFrom, anyFrom, lowest}
-use Rattle.laws.proofs.Fold.{FoundAt, FoundNone, first-cases, first-last, first-at, first-all, some-any}
+use Rattle.laws.specs.Fold.{anyFrom, lowest}
+use Rattle.laws.proofs.Fold.{FoundAt, FoundNone, first-cases, first-last, first-at, some-any}
 use Rattle.forests.specs.Tables.{Placed}
 
--- The search for the lowest number, with one number more that passes, or that does not.
 pub lowest-new : (test : ℕ → Bool) (k last : ℕ) → ((j : ℕ) → j < k → test j ≡ false) → test k ≡ true → lowest test (k + 1) last ≡ k
 lowest-new test k last none here = first-at test (λ j. j) last (k + 1) k (omega arith) here none
 
@@ -69,3 +70,8 @@ write-next f table j d room right i h = go (ℕ-discrete i j)
     go : Dec (i ≡ j) → getD (set table j (f j)) i d ≡ f i
     go (yes e) = rw e (getD-set-same table j (f j) d room)
     go (no m) = getD-set-other table j i (f j) d m ∙ right i (omega arith)
+
+-- Before any entry no station is placed.
+pub placed-none : (n : ℕ) (order positions : List ℕ) → length positions ≡ n → ((v : ℕ) → v < n → getD positions v 0 ≡ n) → Placed n order 0 positions
+placed-none n order positions size none =
+    record { size = size; at = λ v l. none v l ∙ sym (first-last (λ j. eqb (getD order j 0) v) (λ j. j) n 0 (λ j h. absurd (omega arith))) }

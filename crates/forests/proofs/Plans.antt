@@ -1,5 +1,8 @@
 -- THEOREMS. The check accepts just the plans that meet the published definition, and of any other it says the first fault.
 -- Assumes nothing.
+
+-- ── a round ──
+
 use Prim.Native.Nat.{ℕ, _+_, _*_, _/_, _<_, _≤_}
 use mathlib.Core.Path.{_≡_, sym, ap, _∙_}
 use mathlib.Core.Bool.{true≢false}
@@ -12,15 +15,13 @@ use Rattle.laws.specs.Fold.{firstFrom}
 use Rattle.laws.proofs.Fold.{first-last, first-at}
 use Rattle.network.specs.Faults.{Sound}
 use Rattle.forests.specs.Verdicts.{Kind, Kind.A, Verdict, Verdict.accepted, Verdict.faulty, isFaulty}
-use Rattle.forests.specs.Checking.{rankVerdict, ranksVerdict, roundVerdict, orderOf, planVerdict}
+use Rattle.forests.specs.Checking.{rankVerdict, ranksVerdict, roundVerdict, orderOf, planVerdict, roundsVerdict}
 use Rattle.forests.specs.Plans.{RoundMeets, PlanMeets}
 use Rattle.forests.specs.Faults.{RoundFault, FirstFault, FirstFault.rank, FirstFault.round}
 use Rattle.forests.proofs.Orders.{order-size}
 use Rattle.forests.proofs.Greedy.{good-meets, meets-good}
 use Rattle.forests.proofs.Faults.{rank-accepted, rank-faulty}
 use Rattle.forests.proofs.Rounds.{all-or-first, RoundCases, round-cases, good-accepted, round-faulty}
-
--- ── a round ──
 
 module _ (n : ℕ) (lines ranks : List ℕ) (i : ℕ) (order : List ℕ) (s : Sound n lines) where
   abbrev AnyFault : Type 0
@@ -78,12 +79,12 @@ module _ (n k : ℕ) (lines ranks orders : List ℕ) where
 
     -- THEOREM. A plan that meets the definition is accepted.
     pub meets-accepted : PlanMeets n k lines ranks orders → planVerdict n k lines ranks orders ≡ accepted
-    unfolding planVerdict
+    unfolding planVerdict roundsVerdict
     meets-accepted M = rw (ranks-accepted (M .ranks-most), rounds-accepted (M .rounds))
 
     -- THEOREM. The first fault of a plan is what the check says of it.
     pub fault-faulty : {r : ℕ} {kind : Kind} {place : ℕ} → FirstFault n k lines ranks orders r kind place → planVerdict n k lines ranks orders ≡ faulty r kind place
-    unfolding planVerdict
+    unfolding planVerdict roundsVerdict
     fault-faulty (rank p l before h) = rw (ranks-faulty p l before h)
     fault-faulty (round most i l before f) = rw (ranks-accepted most, rounds-faulty i l before f)
 

@@ -1,7 +1,9 @@
 -- What the check says of a round: accepted where it is without a fault, and else its first fault.
 -- Assumes nothing.
+
+-- Of things that are each good or at fault: all below m are good, or there is a first one at fault.
 use Prim.Native.Nat.{ℕ, zero, suc, _/_, _<_, _≤_}
-use mathlib.Core.Path.{_≡_, refl, sym, _∙_}
+use mathlib.Core.Path.{_≡_, refl, sym, ap, _∙_}
 use mathlib.Core.Bool.{Bool, true, false, true≢false}
 use mathlib.Core.List.{List}
 use mathlib.Core.Logic.{_≢_, _⊎_, _⊎_.inl, _⊎_.inr}
@@ -9,7 +11,7 @@ use native.Mathlib.Decide.{ℕ-discrete, decLt, decLe}
 use native.Mathlib.Omega.{arith}
 use lib.ListN.{length, getD}
 use Rattle.laws.proofs.Decide.{dec-and, dec-not, some-below}
-use Rattle.laws.proofs.Fold.{first-last, first-at}
+use Rattle.laws.proofs.Fold.{first-last, first-all, first-at}
 use Rattle.network.specs.Lines.{network, Proper}
 use Rattle.network.specs.Orders.{EachOnce}
 use Rattle.forests.specs.Verdicts.{Kind, Kind.B, Kind.C, Kind.D, Kind.E, Verdict.accepted, Verdict.faulty, isFaulty}
@@ -21,7 +23,6 @@ use Rattle.forests.proofs.Orders.{good-each-once, each-once-good}
 use Rattle.forests.proofs.Greedy.{RoundGood, ranked-playing}
 use Rattle.forests.proofs.Faults.{entry-accepted, entry-faulty, station-accepted, station-faulty, joined-or-not, line-accepted, line-faulty}
 
--- Of things that are each good or at fault: all below m are good, or there is a first one at fault.
 pub all-or-first : (Good Fault : ℕ → Type 0) (m : ℕ) → ((j : ℕ) → j < m → Good j ⊎ Fault j)
     → ((j : ℕ) → j < m → Good j) ⊎ ((j : ℕ) × (j < m) × ((h : ℕ) → h < j → Good h) × Fault j)
 all-or-first Good Fault zero cases = inl (λ j l. absurd (omega arith))
@@ -47,6 +48,15 @@ entry-cases n order j = go (decLe n (getD order j 0)) (some-below (λ h. getD or
     go (yes h) c = inr (outside h)
     go (no m) (inl (h, l, e)) = inr (stood h l e)
     go (no m) (inr new) = inl (record { station = omega arith; new = new })
+
+-- Where B finds no fault, the order has each station once.
+pub order-each-once : (n i : ℕ) (order : List ℕ) → length order ≡ n → isFaulty (orderVerdict n i order) ≡ false → EachOnce n order
+unfolding orderVerdict
+order-each-once n i order size e = good-each-once n order (λ j l. go j l (entry-cases n order j)) size
+  where
+    go : (j : ℕ) → j < n → EntryGood n order j ⊎ EntryFault n order j → EntryGood n order j
+    go j l (inl good) = good
+    go j l (inr fault) = absurd (true≢false (sym (ap isFaulty (entry-faulty n i order j fault)) ∙ first-all isFaulty (entryVerdict n i order) accepted n e j l))
 
 -- What is to be decided: a round is without a fault, or has a first one.
 abbrev pub RoundCases : ℕ → List ℕ → List ℕ → ℕ → List ℕ → Type 0

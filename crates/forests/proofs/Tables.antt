@@ -1,34 +1,35 @@
 -- The tables of a round, when all lines are seen, say what the definitions say: so the verdicts by the tables are the document's.
 -- Assumes nothing.
+
+-- Two tests that hold in the same cases are the same.
 use Prim.Native.Nat.{ℕ, zero, suc, _+_, _/_, _<_, _≤_}
 use mathlib.Core.Path.{_≡_, refl, sym, subst, _∙_}
-use mathlib.Core.Bool.{Bool, true, false, not, _&&_, true≢false}
+use mathlib.Core.Bool.{Bool, true, false, true≢false}
 use mathlib.Core.List.{List}
 use mathlib.Core.Logic.{_≢_, _⊎_, _⊎_.inl, _⊎_.inr}
 use native.Mathlib.Decide.{ℕ-discrete, decLt}
 use native.Mathlib.Omega.{arith}
 use native.Mathlib.Numerals.{add-one}
 use borrow.Author.Tests.{lt-ltb, le-ltb, eqb-false, ne-eqb, not-true}
-use lib.Dec.{ltb, eqb}
+use lib.Dec.{ltb}
 use lib.ListN.{length, getD, set, length-set}
 use lib.Seq.{getD-set-same, getD-set-other}
-use Rattle.laws.specs.Fold.{pick, upTo, firstFrom, anyFrom}
+use Rattle.laws.specs.Fold.{pick, upTo, firstFrom}
 use Rattle.laws.proofs.Fold.{FoundAt, FoundNone, first-cases, first-last, first-at, any-some, some-any}
 use Rattle.network.specs.Lines.{endOne, endTwo, network, Joins, Joins.forth, Joins.back}
-use Rattle.network.specs.Chains.{Hop, Hop.by}
+use Rattle.network.specs.Chains.{Hop.by}
 use Rattle.network.specs.Orders.{EachOnce}
 use Rattle.network.specs.Faults.{Sound}
 use Rattle.network.proofs.Ends.{both-true}
 use Rattle.forests.specs.Checking.{inPlay, ofRank, earliest, hasParent, hasOther, parentVerdict, otherVerdict, stationVerdict, stationsVerdict, positionOf, treesOf, lineVerdict, linesVerdict}
 use Rattle.forests.specs.Tables.{Placed, Seen, seeBetween, seeLine, seeLines, Blank, seenVerdict, allSeenVerdict, plant, plantAll, treesVerdict, allTreesVerdict}
 use Rattle.forests.specs.Verdicts.{Verdict.accepted, isFaulty}
-use Rattle.forests.specs.Faults.{Beside, Tied, Earliest}
+use Rattle.forests.specs.Faults.{Beside, Tied}
 use Rattle.forests.proofs.Hops.{in-play, play-in, of-rank, rank-of, linked-tied, tied-linked, firstBeside, searched, Searched, earliest-one}
 use Rattle.forests.proofs.Orders.{position-order, position-below, order-position}
 use Rattle.forests.proofs.Seeing.{Line, Right, blank-right, right-out, right-from}
 use Rattle.forests.proofs.Trees.{tree-kept, tree-new}
 
--- Two tests that hold in the same cases are the same.
 same-truth : (a b : Bool) → (a ≡ true → b ≡ true) → (b ≡ true → a ≡ true) → a ≡ b
 same-truth true true f g = refl
 same-truth true false f g = absurd (true≢false (sym (f refl)))

@@ -111,18 +111,24 @@ roundVerdict n lines ranks i order =
 unfoldable pub orderOf : ℕ → List ℕ → ℕ → List ℕ
 orderOf n orders i = take n (drop (i * n) orders)
 
+-- Each round in turn.
+unfoldable pub roundsVerdict : ℕ → ℕ → List ℕ → List ℕ → List ℕ → Verdict
+roundsVerdict n k lines ranks orders = firstFrom isFaulty (λ i. roundVerdict n lines ranks (i + 1) (orderOf n orders i)) accepted 0 k
+
 -- A; then each round in turn.
 unfoldable pub planVerdict : ℕ → ℕ → List ℕ → List ℕ → List ℕ → Verdict
-planVerdict n k lines ranks orders =
-    ranksVerdict k lines ranks
-    orElse firstFrom isFaulty (λ i. roundVerdict n lines ranks (i + 1) (orderOf n orders i)) accepted 0 k
+planVerdict n k lines ranks orders = ranksVerdict k lines ranks orElse roundsVerdict n k lines ranks orders
 
--- What the check answers: it tries 1, 2, 3, 5, then lines; then it looks for faults.
-unfoldable pub checkAnswer : ℕ → ℕ → List ℕ → List ℕ → List ℕ → Answer Verdict
-checkAnswer n k lines ranks orders =
+-- The check tries 1, 2, 3, 5, then lines. `short` says whether a lent buffer is shorter than needed.
+unfoldable pub planJudged : ℕ → ℕ → List ℕ → Bool → Answer (Unit {0})
+planJudged n k lines short =
     stationsJudged n
     andThen lengthJudged 0 lines
     andThen levelJudged k
-    andThen roomJudged (planShort n k lines (length ranks) (length orders))
+    andThen roomJudged short
     andThen linesJudged 0 n lines
-    andThen given (planVerdict n k lines ranks orders)
+
+-- What the check answers: a refusal, or what it found.
+unfoldable pub checkAnswer : ℕ → ℕ → List ℕ → List ℕ → List ℕ → Answer Verdict
+checkAnswer n k lines ranks orders =
+    planJudged n k lines (planShort n k lines (length ranks) (length orders)) andThen given (planVerdict n k lines ranks orders)

@@ -16,6 +16,14 @@ pub record Placed (n : ℕ) (order : List ℕ) (count : ℕ) (positions : List �
   pub size : length positions ≡ n
   pub at : (v : ℕ) → v < n → getD positions v 0 ≡ lowest (λ j. eqb (getD order j 0) v) count n
 
+-- There is room for each table.
+pub record Room (n : ℕ) (positions earliest : List ℕ) (parents others : List Bool) (trees : List ℕ) : Type 0 where
+  pub positions-room : length positions ≡ n
+  pub earliest-room : length earliest ≡ n
+  pub parents-room : length parents ≡ n
+  pub others-room : length others ≡ n
+  pub trees-room : length trees ≡ n
+
 -- Of each position: that of the earliest earlier neighbour in play seen so far (itself where there is none), whether the line to it
 -- has the round's rank, and whether another line of that rank leads to an earlier station.
 pub record Seen : Type 0 where

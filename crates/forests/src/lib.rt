@@ -8,18 +8,26 @@ use kinds::Refusal;
 use kinds::Round;
 use kinds::Station;
 use kinds::is_refused;
+use network::judge_length;
+use network::judge_list;
+use network::judge_stations;
 use network::line_at;
 use network::rank_at;
+use request::is_plan_short;
+use request::judge_level;
+use request::judge_room;
 ghost use mathlib.Core.Path.{_≡_};
 ghost use mathlib.Core.Bool.{false};
 ghost use Prim.Native.Nat.{ℕ, _+_, _*_, _/_, _≤_, _<_};
 ghost use lib.ListN.{length, getD};
 ghost use Rattle.laws.specs.Fold.{upTo};
-ghost use Rattle.forests.specs.Verdicts.{isFaulty};
+ghost use Rattle.forests.specs.Verdicts.{isFaulty, _orElse_};
 ghost use Rattle.forests.specs.Answers.{verdictSaid, checkedAnswer};
+ghost use Rattle.kinds.specs.Answers.{judgedAnswer};
 ghost use Rattle.network.specs.Faults.{Sound};
-ghost use Rattle.forests.specs.Checking.{inPlay, ofRank, rankVerdict, ranksVerdict, entryVerdict, orderVerdict, stationsVerdict, linesVerdict, roundVerdict, orderOf, planVerdict, checkAnswer};
-ghost use Rattle.forests.specs.Tables.{Placed, seen, Blank, Fitting, seeFrom, seeBetween, seeLine, seeLines, seenVerdict, allSeenVerdict, plant, plantAll, treesVerdict, allTreesVerdict};
+ghost use Rattle.network.specs.Orders.{EachOnce};
+ghost use Rattle.forests.specs.Checking.{inPlay, ofRank, rankVerdict, ranksVerdict, entryVerdict, orderVerdict, stationsVerdict, linesVerdict, roundVerdict, roundsVerdict, planVerdict, planJudged, checkAnswer};
+ghost use Rattle.forests.specs.Tables.{Placed, Room, seen, Blank, Fitting, seeFrom, seeBetween, seeLine, seeLines, seenVerdict, allSeenVerdict, plant, plantAll, treesVerdict, allTreesVerdict};
 
 // What is wrong: a kind of the document's table, with its own place.
 pub enum FaultKind {
@@ -401,4 +409,173 @@ fn check_lines(
         }
     }
     Verdict::Accepted
+}
+
+// C and D along the order, then E, of a round whose stations are placed.
+fn check_placed(
+    round: Round,
+    lines: &[u16],
+    ranks: &[u8],
+    order: &[u16],
+    positions: &[u16],
+    earliest: &mut [u16],
+    parents: &mut [bool],
+    others: &mut [bool],
+    trees: &mut [u16],
+) -> Verdict
+    requires { ⌜ Sound (length (now order)) (now lines) × EachOnce (length (now order)) (now order) × Placed (length (now order)) (now order) (length (now order)) (now positions) × Blank (length (now order)) (seen (now earliest) (now parents) (now others)) × (length (now trees) ≡ length (now order)) ⌝ }
+    ensures verdict { λ r. ⌜ verdictSaid r ≡ stationsVerdict (length (now (order .entry))) (now (lines .entry)) (now (ranks .entry)) (round .0) (now (order .entry)) orElse linesVerdict (length (now (order .entry))) (now (lines .entry)) (now (ranks .entry)) (round .0) (now (order .entry)) ⌝ }
+{
+    see_lines(round, lines, ranks, positions, earliest, parents, others);
+    let stations = check_stations(round, order, earliest, parents, others);
+    if is_faulty(stations) {
+        return stations;
+    }
+    plant_all(earliest, trees);
+    check_lines(round, lines, ranks, positions, trees)
+}
+
+// A round: B, then C and D along its order, then E by place.
+fn check_round(
+    round: Round,
+    n: usize,
+    lines: &[u16],
+    ranks: &[u8],
+    order: &[u16],
+    positions: &mut [u16],
+    earliest: &mut [u16],
+    parents: &mut [bool],
+    others: &mut [bool],
+    trees: &mut [u16],
+) -> Verdict
+    requires { ⌜ Sound n (now lines) × (length (now order) ≡ n) × Room n (now positions) (now earliest) (now parents) (now others) (now trees) ⌝ }
+    ensures verdict { λ r. ⌜ verdictSaid r ≡ roundVerdict n (now (lines .entry)) (now (ranks .entry)) (round .0) (now (order .entry)) ⌝ }
+{
+    empty_tables(n, positions, earliest, parents, others);
+    let placed = check_order(n, round, order, positions);
+    if is_faulty(placed) {
+        return placed;
+    }
+    check_placed(
+        round,
+        lines,
+        ranks,
+        order,
+        positions,
+        earliest,
+        parents,
+        others,
+        trees,
+    )
+}
+
+// The rounds 1 to k, each with its part of the orders.
+fn check_rounds(
+    level: Level,
+    n: usize,
+    lines: &[u16],
+    ranks: &[u8],
+    orders: &[u16],
+    positions: &mut [u16],
+    earliest: &mut [u16],
+    parents: &mut [bool],
+    others: &mut [bool],
+    trees: &mut [u16],
+) -> Verdict
+    requires { ⌜ Sound n (now lines) × (level .0 ≤ 16) × (level .0 * n ≤ length (now orders)) × Room n (now positions) (now earliest) (now parents) (now others) (now trees) ⌝ }
+    ensures verdict { λ r. ⌜ verdictSaid r ≡ roundsVerdict n (level .0) (now (lines .entry)) (now (ranks .entry)) (now (orders .entry)) ⌝ }
+{
+    let k = level.0;
+    let mut at = 0;
+    for i in 0..k {
+        let end = at + n;
+        let verdict = check_round(
+            Round((i + 1) as u8),
+            n,
+            lines,
+            ranks,
+            &orders[at..end],
+            positions,
+            earliest,
+            parents,
+            others,
+            trees,
+        );
+        if is_faulty(verdict) {
+            return verdict;
+        }
+        at = end;
+    }
+    Verdict::Accepted
+}
+
+// The rounds, with tables to work in.
+fn run_rounds(level: Level, n: usize, lines: &[u16], ranks: &[u8], orders: &[u16]) -> Verdict
+    requires { ⌜ Sound n (now lines) × (level .0 ≤ 16) × (level .0 * n ≤ length (now orders)) ⌝ }
+    ensures verdict { λ r. ⌜ verdictSaid r ≡ roundsVerdict n (level .0) (now (lines .entry)) (now (ranks .entry)) (now (orders .entry)) ⌝ }
+{
+    let mut positions = [0u16; 1024];
+    let mut earliest = [0u16; 1024];
+    let mut parents = [false; 1024];
+    let mut others = [false; 1024];
+    let mut trees = [0u16; 1024];
+    check_rounds(
+        level,
+        n,
+        lines,
+        ranks,
+        orders,
+        &mut positions[..n],
+        &mut earliest[..n],
+        &mut parents[..n],
+        &mut others[..n],
+        &mut trees[..n],
+    )
+}
+
+// What is found in a plan that is not refused: A, then each round in turn.
+fn check_plan(level: Level, n: usize, lines: &[u16], ranks: &[u8], orders: &[u16]) -> Verdict
+    requires { ⌜ Sound n (now lines) × (level .0 ≤ 16) × (level .0 * n ≤ length (now orders)) ⌝ }
+    ensures verdict { λ r. ⌜ verdictSaid r ≡ planVerdict n (level .0) (now (lines .entry)) (now (ranks .entry)) (now (orders .entry)) ⌝ }
+{
+    let verdict = check_ranks(level, lines, ranks);
+    if is_faulty(verdict) {
+        return verdict;
+    }
+    run_rounds(level, n, lines, ranks, orders)
+}
+
+// The refusals 1, 2, 3, 5, then lines.
+fn judge_plan(n: usize, level: Level, lines: &[u16], short: bool) -> Judged
+    ensures answer { λ r. ⌜ judgedAnswer r ≡ planJudged n (level .0) (now (lines .entry)) short ⌝ }
+{
+    let stations = judge_stations(n);
+    if is_refused(stations) {
+        return stations;
+    }
+    let length = judge_length(LineList::Only, lines);
+    if is_refused(length) {
+        return length;
+    }
+    let levels = judge_level(level);
+    if is_refused(levels) {
+        return levels;
+    }
+    let room = judge_room(short);
+    if is_refused(room) {
+        return room;
+    }
+    judge_list(LineList::Only, n, lines)
+}
+
+// The check of forests, over ranks and orders from anywhere.
+pub fn check(n: usize, level: Level, lines: &[u16], ranks: &[u8], orders: &[u16]) -> Checked
+    ensures answer { λ r. ⌜ checkedAnswer r ≡ checkAnswer n (level .0) (now (lines .entry)) (now (ranks .entry)) (now (orders .entry)) ⌝ }
+{
+    let short = is_plan_short(n, level, lines, ranks.len(), orders.len());
+    let judged = judge_plan(n, level, lines, short);
+    if let Judged::Refused(refusal) = judged {
+        return Checked::Refused(refusal);
+    }
+    Checked::Found(check_plan(level, n, lines, ranks, orders))
 }

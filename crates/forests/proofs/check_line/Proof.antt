@@ -1,10 +1,10 @@
+-- `forests::check_line` meets its contract. Each return rewrites by the tests that led to it. Assumes nothing.
 use native.Mathlib.Omega.{arith}
 use borrow.Author.Tests.{not-true, not-false, eq-eqb, ne-eqb}
 use lib.ListN.{length}
 use mathlib.Core.Path.{sym, _∙_}
 use Prim.Native.Nat.{_<_}
 use Rattle.forests.specs.Tables.{treesVerdict}
-use borrow.Author.Tests.{eq-eqb, ne-eqb}
 use borrow.Author.Needs.{needs}
 use Rattle.forests.proofs.check_line.Statement.{statement}
 use Rattle.forests.proofs.check_line.Tie as tie
@@ -14,20 +14,16 @@ use Rattle.forests.proofs.in_play.Reads as in-play-reads
 use Rattle.forests.proofs.tree_of.Reads as tree-of-reads
 use Rattle.network.proofs.line_at.Reads as line-at-reads
 
--- src/lib.rt:370:9
 in-play-requires : tie.Need-in-play-requires
 in-play-requires c κs = search needs
 
--- src/lib.rt:371:9
 returns : tie.Need-returns
 unfolding treesVerdict
 returns c = rw (sym (c .before .in-play .ensures) ∙ not-true _ (c .if1 .taken))
 
--- src/lib.rt:373:9
 line-at-requires : tie.Need-line-at-requires
 line-at-requires c κs = search needs
 
--- src/lib.rt:374:9
 tree-of-requires : tie.Need-tree-of-requires
 tree-of-requires c κs =
     let p = c .before .before .before .before .before .before .before .pre in
@@ -35,7 +31,6 @@ tree-of-requires c κs =
     let e : c .line-at .result .one .0 < length (c .before .before .before .before .before .before .before .args .positions .now) = omega (arith, c .line-at .ensures .0) in
     (e, p .2 _ e)
 
--- src/lib.rt:375:9
 tree-of-requires-2 : tie.Need-tree-of-requires-2
 tree-of-requires-2 c κs =
     let p = c .before .before .before .before .before .before .before .before .pre in
@@ -43,12 +38,10 @@ tree-of-requires-2 c κs =
     let e : c .before .line-at .result .two .0 < length (c .before .before .before .before .before .before .before .before .args .positions .now) = omega (arith, c .before .line-at .ensures .1) in
     (e, p .2 _ e)
 
--- src/lib.rt:377:9
 returns-2 : tie.Need-returns-2
 unfolding treesVerdict
 returns-2 c = rw (sym (c .before .before .before .before .before .before .before .in-play .ensures) ∙ not-false _ (c .before .before .before .before .before .before .if1 .left), ← c .before .before .before .before .before .line-at .ensures .0, ← c .before .before .before .before .before .line-at .ensures .1, ← c .before .before .before .before .tree-of .ensures, ← c .before .before .before .tree-of2 .ensures, eq-eqb _ _ (c .if2 .taken))
 
--- src/lib.rt:359:1
 returns-3 : tie.Need-returns-3
 unfolding treesVerdict
 returns-3 c = rw (sym (c .before .before .before .before .before .before .before .in-play .ensures) ∙ not-false _ (c .before .before .before .before .before .before .if1 .left), ← c .before .before .before .before .before .line-at .ensures .0, ← c .before .before .before .before .before .line-at .ensures .1, ← c .before .before .before .before .tree-of .ensures, ← c .before .before .before .tree-of2 .ensures, ne-eqb _ _ (c .if2 .left))

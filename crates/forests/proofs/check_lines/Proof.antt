@@ -1,9 +1,11 @@
+-- `forests::check_lines` meets its contract. The loop's invariant: what is left to look at from p on is the verdict. The measure is the
+-- number of lines left. Assumes nothing.
 use Rattle.forests.specs.Tables.{treesVerdict, allTreesVerdict}
 use Rattle.forests.specs.Verdicts.{Verdict.accepted, isFaulty}
 use lib.ListN.{length}
 use Prim.Native.Nat.{_-_, _/_, _≤_}
 use mathlib.Core.Bool.{true, false}
-use mathlib.Core.Path.{_≡_, refl}
+use mathlib.Core.Path.{_≡_}
 use Rattle.laws.proofs.Fold.{first-start, first-next, first-here, first-none}
 use Rattle.laws.specs.Fold.{firstFrom}
 use borrow.Author.Needs.{needs}
@@ -21,24 +23,19 @@ Inv-loop round lines ranks positions trees count p₀ p = (p ≤ count) × (allT
 abbrev μ-loop : tie.MeasureT-loop
 μ-loop round lines ranks positions trees count p₀ p = count - p
 
--- src/lib.rt:397:5
 loop-holds : tie.Need-loop-holds Inv-loop μ-loop
 unfolding allTreesVerdict
 loop-holds c = (search needs, first-start _ _ _ _)
 
--- src/lib.rt:398:47
 cast-t11 : tie.Need-cast-t11 Inv-loop μ-loop
 cast-t11 c = omega (arith, c .before .before .before .before .before .before .pre .0 .within .few, c .loop-test .taken)
 
--- src/lib.rt:398:13
 check-line-requires : tie.Need-check-line-requires Inv-loop μ-loop
 check-line-requires c κs = (omega (arith, c .before .before .before .before .before .before .pre .0 .within .few, c .loop-test .taken), c .before .before .before .before .before .before .pre .0, c .before .before .before .before .before .before .pre .1)
 
--- src/lib.rt:399:12
 is-faulty-requires : tie.Need-is-faulty-requires Inv-loop μ-loop
 is-faulty-requires c κs = search needs
 
--- src/lib.rt:400:13
 returns : tie.Need-returns Inv-loop μ-loop
 returns c =
     let a = c .before .before .before .before .before .before .before .before .before .args in
@@ -46,15 +43,12 @@ returns c =
     let e : isFaulty (find (c .before .before .before .before .loop .p)) ≡ true = cc in
     cc (first-here isFaulty find accepted (length (a .lines .now) / 2) (c .before .before .before .before .loop .p) (omega (arith, c .before .before .before .loop-test .taken)) e)
 
--- src/lib.rt:397:9
 add-p : tie.Need-add-p Inv-loop μ-loop
 add-p c = search needs
 
--- src/lib.rt:397:5
 loop-less : tie.Need-loop-less Inv-loop μ-loop
 loop-less c = search needs
 
--- src/lib.rt:397:5
 loop-again : tie.Need-loop-again Inv-loop μ-loop
 loop-again c =
     let a = c .before .before .before .before .before .before .before .before .before .args in
@@ -62,7 +56,6 @@ loop-again c =
     let e : isFaulty (find (c .before .before .before .before .loop .p)) ≡ false = cc in
     (omega (arith, c .before .before .before .loop-test .taken), cc (first-next isFaulty find accepted (length (a .lines .now) / 2) (c .before .before .before .before .loop .p) (omega (arith, c .before .before .before .loop-test .taken)) e))
 
--- src/lib.rt:386:1
 returns-2 : tie.Need-returns-2 Inv-loop μ-loop
 returns-2 c =
     let a = c .before .before .before .before .before .before .args in

@@ -1,14 +1,13 @@
-use mathlib.Core.Bool.{true≢false}
-use mathlib.Core.Path.{sym, _∙_}
+-- `forests::check_order` meets its contract. The loop's invariant: the first j entries are placed, and what is left to look at from j on is
+-- the verdict. The measure is n - j. Assumes nothing.
+use mathlib.Core.Bool.{true≢false, true, false}
+use mathlib.Core.Path.{sym, _∙_, _≡_, refl}
 use Rattle.forests.specs.Tables.{Placed}
 use Rattle.forests.specs.Checking.{entryVerdict, orderVerdict}
-use Prim.Native.Nat.{_+_}
+use Prim.Native.Nat.{_-_, _≤_}
 use Rattle.forests.specs.Answers.{verdictSaid}
 use Rattle.forests.specs.Verdicts.{Verdict.accepted, isFaulty}
 use lib.ListN.{length}
-use Prim.Native.Nat.{_-_, _/_, _≤_}
-use mathlib.Core.Bool.{true, false}
-use mathlib.Core.Path.{_≡_, refl}
 use Rattle.laws.proofs.Fold.{first-start, first-next, first-here, first-none}
 use Rattle.laws.specs.Fold.{firstFrom}
 use borrow.Author.Needs.{needs}
@@ -26,28 +25,22 @@ Inv-loop n round order positions₀ j₀ positions j = (j ≤ n) × (length posi
 abbrev μ-loop : tie.MeasureT-loop
 μ-loop n round order positions₀ j₀ positions j = n - j
 
--- src/lib.rt:168:5
 loop-holds : tie.Need-loop-holds Inv-loop μ-loop
 unfolding orderVerdict
 loop-holds c = (search needs, refl, c .before .before .pre .2, first-start _ _ _ _)
 
--- src/lib.rt:169:54
 cast-t8 : tie.Need-cast-t8 Inv-loop μ-loop
 cast-t8 c = search needs
 
--- src/lib.rt:169:13
 place-entry-requires : tie.Need-place-entry-requires Inv-loop μ-loop
 place-entry-requires c κs = (c .before .before .before .before .before .pre .0, omega (arith, c .before .loop-test .taken), c .before .before .before .before .before .pre .1, c .before .before .loop .inv .2)
 
--- src/lib.rt:170:12
 is-faulty-requires : tie.Need-is-faulty-requires Inv-loop μ-loop
 is-faulty-requires c κs = search needs
 
--- src/lib.rt:171:13
 same-length : tie.Need-same-length Inv-loop μ-loop
 same-length c = search needs
 
--- src/lib.rt:171:13
 returns : tie.Need-returns Inv-loop μ-loop
 returns c =
     let a = c .before .before .before .before .before .before .before .before .before .before .args in
@@ -56,15 +49,12 @@ returns c =
     let f : isFaulty (verdictSaid (c .before .before .before .before .place-entry .result)) ≡ true = cc in
     (cc (first-here isFaulty find accepted (a .n) (c .before .before .before .before .before .before .before .loop .j) (omega (arith, c .before .before .before .before .before .before .loop-test .taken)) e), λ g. absurd (true≢false (sym f ∙ g)))
 
--- src/lib.rt:168:9
 add-j : tie.Need-add-j Inv-loop μ-loop
 add-j c = search needs
 
--- src/lib.rt:168:5
 loop-less : tie.Need-loop-less Inv-loop μ-loop
 loop-less c = search needs
 
--- src/lib.rt:168:5
 loop-again : tie.Need-loop-again Inv-loop μ-loop
 loop-again c =
     let a = c .before .before .before .before .before .before .before .before .before .before .args in
@@ -72,11 +62,9 @@ loop-again c =
     let e : isFaulty (find (c .before .before .before .before .before .before .before .loop .j)) ≡ false = cc in
     (omega (arith, c .before .before .before .before .before .before .loop-test .taken), omega arith, c .before .before .before .before .place-entry .ensures .1 (let f : isFaulty (verdictSaid (c .before .before .before .before .place-entry .result)) ≡ false = cc in f), cc (first-next isFaulty find accepted (a .n) (c .before .before .before .before .before .before .before .loop .j) (omega (arith, c .before .before .before .before .before .before .loop-test .taken)) e))
 
--- src/lib.rt:163:1
 same-length-2 : tie.Need-same-length-2 Inv-loop μ-loop
 same-length-2 c = search needs
 
--- src/lib.rt:163:1
 returns-2 : tie.Need-returns-2 Inv-loop μ-loop
 returns-2 c =
     let a = c .before .before .before .before .args in

@@ -1,9 +1,11 @@
+-- `forests::check_ranks` meets its contract. The loop's invariant: what is left to look at from p on is the verdict. The measure is the
+-- number of lines left. Assumes nothing.
 use Rattle.forests.specs.Checking.{rankVerdict, ranksVerdict}
 use Rattle.forests.specs.Verdicts.{Verdict.accepted, isFaulty}
 use lib.ListN.{length}
 use Prim.Native.Nat.{_-_, _/_, _≤_}
 use mathlib.Core.Bool.{true, false}
-use mathlib.Core.Path.{_≡_, refl}
+use mathlib.Core.Path.{_≡_}
 use Rattle.laws.proofs.Fold.{first-start, first-next, first-here, first-none}
 use Rattle.laws.specs.Fold.{firstFrom}
 use borrow.Author.Needs.{needs}
@@ -21,24 +23,19 @@ Inv-loop level lines ranks count p₀ p = (p ≤ count) × (ranksVerdict (level 
 abbrev μ-loop : tie.MeasureT-loop
 μ-loop level lines ranks count p₀ p = count - p
 
--- src/lib.rt:95:5
 loop-holds : tie.Need-loop-holds Inv-loop μ-loop
 unfolding ranksVerdict
 loop-holds c = (search needs, first-start _ _ _ _)
 
--- src/lib.rt:96:47
 cast-t9 : tie.Need-cast-t9 Inv-loop μ-loop
 cast-t9 c = search needs
 
--- src/lib.rt:96:13
 check-rank-requires : tie.Need-check-rank-requires Inv-loop μ-loop
 check-rank-requires c κs = search needs
 
--- src/lib.rt:97:12
 is-faulty-requires : tie.Need-is-faulty-requires Inv-loop μ-loop
 is-faulty-requires c κs = search needs
 
--- src/lib.rt:98:13
 returns : tie.Need-returns Inv-loop μ-loop
 returns c =
     let a = c .before .before .before .before .before .before .before .args in
@@ -46,15 +43,12 @@ returns c =
     let e : isFaulty (find (c .before .before .before .before .loop .p)) ≡ true = cc in
     cc (first-here isFaulty find accepted (length (a .lines .now) / 2) (c .before .before .before .before .loop .p) (omega (arith, c .before .before .before .loop-test .taken)) e)
 
--- src/lib.rt:95:9
 add-p : tie.Need-add-p Inv-loop μ-loop
 add-p c = search needs
 
--- src/lib.rt:95:5
 loop-less : tie.Need-loop-less Inv-loop μ-loop
 loop-less c = search needs
 
--- src/lib.rt:95:5
 loop-again : tie.Need-loop-again Inv-loop μ-loop
 loop-again c =
     let a = c .before .before .before .before .before .before .before .args in
@@ -62,7 +56,6 @@ loop-again c =
     let e : isFaulty (find (c .before .before .before .before .loop .p)) ≡ false = cc in
     (omega (arith, c .before .before .before .loop-test .taken), cc (first-next isFaulty find accepted (length (a .lines .now) / 2) (c .before .before .before .before .loop .p) (omega (arith, c .before .before .before .loop-test .taken)) e))
 
--- src/lib.rt:90:1
 returns-2 : tie.Need-returns-2 Inv-loop μ-loop
 returns-2 c =
     let a = c .before .before .before .before .args in

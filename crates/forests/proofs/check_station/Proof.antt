@@ -1,3 +1,4 @@
+-- `forests::check_station` meets its contract. Each return rewrites by the tests that led to it. Assumes nothing.
 use Rattle.forests.specs.Tables.{seenVerdict}
 use borrow.Author.Tests.{lt-ltb, le-ltb}
 use lib.Dec.{ltb}
@@ -11,40 +12,31 @@ use Rattle.forests.proofs.check_station.Tie as tie
 use Rattle.forests.proofs.check_station.Reads as reads
 use Rattle.forests.proofs.check_station.Lts as lts
 
--- src/lib.rt:286:13
 cast-j : tie.Need-cast-j
 cast-j c = search needs
 
--- src/lib.rt:287:27
 mul-if1 : tie.Need-mul-if1
 mul-if1 c = search needs
 
--- src/lib.rt:287:27
 shared-slice-read-if1 : tie.Need-shared-slice-read-if1
 shared-slice-read-if1 c = search needs
 
--- src/lib.rt:288:8
 mul-if1-2 : tie.Need-mul-if1-2
 mul-if1-2 c = search needs
 
--- src/lib.rt:288:8
 shared-slice-read-if1-2 : tie.Need-shared-slice-read-if1-2
 shared-slice-read-if1-2 c = search needs
 
--- src/lib.rt:288:37
 shared-slice-read-if2 : tie.Need-shared-slice-read-if2
 shared-slice-read-if2 c = search needs
 
--- src/lib.rt:289:9
 returns : tie.Need-returns
 unfolding seenVerdict
 returns c = rw (lt-ltb _ _ (c .before .before .if1 .taken), c .if2 .taken)
 
--- src/lib.rt:294:8
 shared-slice-read-if3 : tie.Need-shared-slice-read-if3
 shared-slice-read-if3 c = search needs
 
--- src/lib.rt:295:9
 returns-2 : tie.Need-returns-2
 unfolding seenVerdict
 returns-2 c =
@@ -52,7 +44,6 @@ returns-2 c =
     let e : (ltb (getD (a .earliest .now) (a .position .0) 0) (a .position .0) && not (getD (a .parents .now) (a .position .0) false)) ≡ false = ⊎-elim (λ w. rw (lt-ltb _ _ (w .0 .taken), w .2 .left)) (λ w. rw (le-ltb _ _ (w .left))) (c .before .before .if1 .came) in
     rw (e, c .if3 .taken)
 
--- src/lib.rt:275:1
 returns-3 : tie.Need-returns-3
 unfolding seenVerdict
 returns-3 c =

@@ -1,9 +1,11 @@
+-- `forests::check_stations` meets its contract. The loop's invariant: what is left to look at from j on is the verdict. The measure is the
+-- number of stations left. Assumes nothing.
 use Rattle.forests.specs.Tables.{seen, seenVerdict, allSeenVerdict}
 use Rattle.forests.specs.Verdicts.{Verdict.accepted, isFaulty}
 use lib.ListN.{length}
-use Prim.Native.Nat.{_-_, _/_, _≤_}
+use Prim.Native.Nat.{_-_, _≤_}
 use mathlib.Core.Bool.{true, false}
-use mathlib.Core.Path.{_≡_, refl}
+use mathlib.Core.Path.{_≡_}
 use Rattle.laws.proofs.Fold.{first-start, first-next, first-here, first-none}
 use Rattle.laws.specs.Fold.{firstFrom}
 use borrow.Author.Needs.{needs}
@@ -21,24 +23,19 @@ Inv-loop round order earliest parents others n j₀ j = (j ≤ n) × (allSeenVer
 abbrev μ-loop : tie.MeasureT-loop
 μ-loop round order earliest parents others n j₀ j = n - j
 
--- src/lib.rt:315:5
 loop-holds : tie.Need-loop-holds Inv-loop μ-loop
 unfolding allSeenVerdict
 loop-holds c = (search needs, first-start _ _ _ _)
 
--- src/lib.rt:316:53
 cast-t10 : tie.Need-cast-t10 Inv-loop μ-loop
 cast-t10 c = search needs
 
--- src/lib.rt:316:13
 check-station-requires : tie.Need-check-station-requires Inv-loop μ-loop
 check-station-requires c κs = search needs
 
--- src/lib.rt:317:12
 is-faulty-requires : tie.Need-is-faulty-requires Inv-loop μ-loop
 is-faulty-requires c κs = search needs
 
--- src/lib.rt:318:13
 returns : tie.Need-returns Inv-loop μ-loop
 returns c =
     let a = c .before .before .before .before .before .before .before .before .before .args in
@@ -46,15 +43,12 @@ returns c =
     let e : isFaulty (find (c .before .before .before .before .loop .j)) ≡ true = cc in
     cc (first-here isFaulty find accepted (length (a .order .now)) (c .before .before .before .before .loop .j) (omega (arith, c .before .before .before .loop-test .taken)) e)
 
--- src/lib.rt:315:9
 add-j : tie.Need-add-j Inv-loop μ-loop
 add-j c = search needs
 
--- src/lib.rt:315:5
 loop-less : tie.Need-loop-less Inv-loop μ-loop
 loop-less c = search needs
 
--- src/lib.rt:315:5
 loop-again : tie.Need-loop-again Inv-loop μ-loop
 loop-again c =
     let a = c .before .before .before .before .before .before .before .before .before .args in
@@ -62,7 +56,6 @@ loop-again c =
     let e : isFaulty (find (c .before .before .before .before .loop .j)) ≡ false = cc in
     (omega (arith, c .before .before .before .loop-test .taken), cc (first-next isFaulty find accepted (length (a .order .now)) (c .before .before .before .before .loop .j) (omega (arith, c .before .before .before .loop-test .taken)) e))
 
--- src/lib.rt:304:1
 returns-2 : tie.Need-returns-2 Inv-loop μ-loop
 returns-2 c =
     let a = c .before .before .before .before .before .before .args in

@@ -1,9 +1,10 @@
+-- `forests::empty_tables` meets its contract. The loop's invariant: the first j entries of each table are empty. The measure is n - j.
+-- Assumes nothing.
 use Rattle.forests.proofs.Placing.{write-next}
-use lib.ListN.{length, getD, set, length-set}
-use mathlib.Core.List.{List}
-use mathlib.Core.Bool.{Bool, false}
-use mathlib.Core.Path.{_≡_, refl, sym, _∙_}
-use Prim.Native.Nat.{ℕ, _+_, _-_, _<_, _≤_}
+use lib.ListN.{length, getD, length-set}
+use mathlib.Core.Bool.{false}
+use mathlib.Core.Path.{_≡_}
+use Prim.Native.Nat.{ℕ, _-_, _<_, _≤_}
 use borrow.Author.Needs.{needs}
 use native.Mathlib.Omega.{arith}
 use Rattle.forests.proofs.empty_tables.Statement.{statement}
@@ -26,51 +27,39 @@ Inv-loop n positions₀ earliest₀ parents₀ others₀ j₀ positions earliest
 abbrev μ-loop : tie.MeasureT-loop
 μ-loop n positions₀ earliest₀ parents₀ others₀ j₀ positions earliest parents others j = n - j
 
--- src/lib.rt:126:5
 loop-holds : tie.Need-loop-holds Inv-loop μ-loop
 loop-holds c = let p = c .pre in (search needs, p .1, p .2, p .3, p .4, λ i h. absurd (omega arith), λ i h. absurd (omega arith), λ i h. absurd (omega arith), λ i h. absurd (omega arith))
 
--- src/lib.rt:127:24
 cast-positions : tie.Need-cast-positions Inv-loop μ-loop
 cast-positions c = search needs
 
--- src/lib.rt:127:9
 mul-positions : tie.Need-mul-positions Inv-loop μ-loop
 mul-positions c = search needs
 
--- src/lib.rt:127:9
 slice-write-positions : tie.Need-slice-write-positions Inv-loop μ-loop
 slice-write-positions c = omega (arith, c .loop-test .taken, c .before .loop .inv .1)
 
--- src/lib.rt:128:23
 cast-earliest : tie.Need-cast-earliest Inv-loop μ-loop
 cast-earliest c = search needs
 
--- src/lib.rt:128:9
 mul-earliest : tie.Need-mul-earliest Inv-loop μ-loop
 mul-earliest c = search needs
 
--- src/lib.rt:128:9
 slice-write-earliest : tie.Need-slice-write-earliest Inv-loop μ-loop
 slice-write-earliest c = omega (arith, c .loop-test .taken, c .before .loop .inv .2)
 
--- src/lib.rt:129:9
 slice-write-parents : tie.Need-slice-write-parents Inv-loop μ-loop
 slice-write-parents c = omega (arith, c .loop-test .taken, c .before .loop .inv .3)
 
--- src/lib.rt:130:9
 slice-write-others : tie.Need-slice-write-others Inv-loop μ-loop
 slice-write-others c = omega (arith, c .loop-test .taken, c .before .loop .inv .4)
 
--- src/lib.rt:126:9
 add-j : tie.Need-add-j Inv-loop μ-loop
 add-j c = search needs
 
--- src/lib.rt:126:5
 loop-less : tie.Need-loop-less Inv-loop μ-loop
 loop-less c = search needs
 
--- src/lib.rt:126:5
 loop-again : tie.Need-loop-again Inv-loop μ-loop
 loop-again c =
     let i = c .before .loop .inv in
@@ -87,23 +76,18 @@ loop-again c =
       write-next (λ x. false) (l .others) (l .j) false (omega (arith, c .loop-test .taken, i .4)) (i .8),
     )
 
--- src/lib.rt:115:1
 same-length : tie.Need-same-length Inv-loop μ-loop
 same-length c = omega (arith, c .before .loop .inv .1, c .before .before .pre .1)
 
--- src/lib.rt:115:1
 same-length-2 : tie.Need-same-length-2 Inv-loop μ-loop
 same-length-2 c = omega (arith, c .before .loop .inv .2, c .before .before .pre .2)
 
--- src/lib.rt:115:1
 same-length-3 : tie.Need-same-length-3 Inv-loop μ-loop
 same-length-3 c = omega (arith, c .before .loop .inv .3, c .before .before .pre .3)
 
--- src/lib.rt:115:1
 same-length-4 : tie.Need-same-length-4 Inv-loop μ-loop
 same-length-4 c = omega (arith, c .before .loop .inv .4, c .before .before .pre .4)
 
--- src/lib.rt:115:1
 returns : tie.Need-returns Inv-loop μ-loop
 returns c =
     let i = c .before .loop .inv in

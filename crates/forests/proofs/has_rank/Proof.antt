@@ -1,3 +1,4 @@
+-- `forests::has_rank` meets its contract. The test of two numbers is the definition's. Assumes nothing.
 use Rattle.forests.specs.Checking.{ofRank}
 use borrow.Author.Needs.{needs}
 use Rattle.forests.proofs.has_rank.Statement.{statement}
@@ -6,11 +7,9 @@ use Rattle.forests.proofs.has_rank.Reads as reads
 use Rattle.forests.proofs.has_rank.Lts as lts
 use Rattle.network.proofs.rank_at.Reads as rank-at-reads
 
--- src/lib.rt:81:9
 rank-at-requires : tie.Need-rank-at-requires
 rank-at-requires c κs = search needs
 
--- src/lib.rt:78:1
 returns : tie.Need-returns
 unfolding ofRank
 returns c = rw (← c .before .before .rank-at .ensures)

@@ -1,3 +1,4 @@
+-- `forests::in_play` meets its contract. Each return rewrites by the test that led to it. Assumes nothing.
 use Rattle.forests.specs.Checking.{inPlay}
 use borrow.Author.Tests.{eq-eqb, ne-eqb}
 use borrow.Author.Needs.{needs}
@@ -7,16 +8,13 @@ use Rattle.forests.proofs.in_play.Reads as reads
 use Rattle.forests.proofs.in_play.Lts as lts
 use Rattle.network.proofs.rank_at.Reads as rank-at-reads
 
--- src/lib.rt:68:9
 rank-at-requires : tie.Need-rank-at-requires
 rank-at-requires c κs = search needs
 
--- src/lib.rt:70:9
 returns : tie.Need-returns
 unfolding inPlay
 returns c = rw (← c .before .before .rank-at .ensures, eq-eqb _ _ (c .if1 .taken))
 
--- src/lib.rt:65:1
 returns-2 : tie.Need-returns-2
 unfolding inPlay
 returns-2 c = rw (← c .before .before .before .before .rank-at .ensures, ne-eqb _ _ (c .before .before .if1 .left))

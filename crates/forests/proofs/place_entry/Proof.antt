@@ -1,56 +1,45 @@
+-- `forests::place_entry` meets its contract. A station stood before just if the table has a position for it; then the table is that of one
+-- entry more. Assumes nothing.
 use native.Mathlib.Omega.{arith}
 use lib.Dec.{eqb}
 use lib.ListN.{getD}
 use mathlib.Core.Bool.{false, true≢false}
-use mathlib.Core.Path.{_≡_, sym, refl}
-use Prim.Native.Nat.{_<_, _≤_}
+use mathlib.Core.Path.{refl}
 use Rattle.forests.proofs.Placing.{stood, not-stood, placed-next}
 use Rattle.forests.specs.Checking.{entryVerdict}
 use Rattle.laws.proofs.Fold.{first-last}
-use Rattle.network.proofs.Ends.{or-true}
 use borrow.Author.Tests.{le-leb, lt-leb}
-use mathlib.Core.Bool.{_||_}
-use mathlib.Core.Path.{sym}
 use borrow.Author.Needs.{needs}
 use Rattle.forests.proofs.place_entry.Statement.{statement}
 use Rattle.forests.proofs.place_entry.Tie as tie
 use Rattle.forests.proofs.place_entry.Reads as reads
 use Rattle.forests.proofs.place_entry.Lts as lts
 
--- src/lib.rt:146:13
 cast-j : tie.Need-cast-j
 cast-j c = search needs
 
--- src/lib.rt:147:13
 mul-v : tie.Need-mul-v
 mul-v c = search needs
 
--- src/lib.rt:147:13
 shared-slice-read-v : tie.Need-shared-slice-read-v
 shared-slice-read-v c = search needs
 
--- src/lib.rt:147:13
 cast-v : tie.Need-cast-v
 cast-v c = omega (arith, c .shared-slice-known .given (c .before .before .args .position .0))
 
--- src/lib.rt:153:9
 returns : tie.Need-returns
 unfolding entryVerdict
 returns c = (rw (le-leb _ _ (c .if1 .taken)), λ e. absurd (true≢false e))
 
--- src/lib.rt:155:9
 mul-if2 : tie.Need-mul-if2
 mul-if2 c = search needs
 
--- src/lib.rt:155:9
 slice-read-if2 : tie.Need-slice-read-if2
 slice-read-if2 c = search needs
 
--- src/lib.rt:155:9
 cast-if2 : tie.Need-cast-if2
 cast-if2 c = omega (arith, c .slice-known .given (getD (c .before .before .before .before .args .order .now) (c .before .before .before .before .args .position .0) 0))
 
--- src/lib.rt:156:9
 returns-2 : tie.Need-returns-2
 unfolding entryVerdict
 returns-2 c =
@@ -58,19 +47,15 @@ returns-2 c =
     let p = c .before .before .before .before .before .pre in
     (rw (lt-leb _ _ (c .before .before .if1 .left), stood (a .n) (a .order .now) (a .position .0) (a .positions .now) (p .3) (omega (arith, p .1)) _ (c .before .before .if1 .left) (c .if2 .taken)), λ e. absurd (true≢false e))
 
--- src/lib.rt:158:5
 mul-positions : tie.Need-mul-positions
 mul-positions c = search needs
 
--- src/lib.rt:158:5
 slice-write-positions : tie.Need-slice-write-positions
 slice-write-positions c = search needs
 
--- src/lib.rt:135:1
 same-length : tie.Need-same-length
 same-length c = search needs
 
--- src/lib.rt:135:1
 returns-3 : tie.Need-returns-3
 unfolding entryVerdict
 returns-3 c =

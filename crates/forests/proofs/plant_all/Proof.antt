@@ -1,3 +1,5 @@
+-- `forests::plant_all` meets its contract. The loop's invariant: the trees are the definition's after j positions. The measure is the
+-- number of positions left. Assumes nothing.
 use Rattle.forests.specs.Tables.{plant, plantAll}
 use Rattle.laws.proofs.Fold.{upTo-more}
 use Rattle.laws.specs.Fold.{upTo}
@@ -18,38 +20,30 @@ Inv-loop earliest trees₀ n j₀ trees j = (j ≤ n) × (length trees ≡ lengt
 abbrev μ-loop : tie.MeasureT-loop
 μ-loop earliest trees₀ n j₀ trees j = n - j
 
--- src/lib.rt:344:5
 loop-holds : tie.Need-loop-holds Inv-loop μ-loop
 unfolding upTo
 loop-holds c = (search needs, refl, refl)
 
--- src/lib.rt:345:27
 cast-t7 : tie.Need-cast-t7 Inv-loop μ-loop
 cast-t7 c = search needs
 
--- src/lib.rt:345:9
 plant-at-requires : tie.Need-plant-at-requires Inv-loop μ-loop
 plant-at-requires c κs = search needs
 
--- src/lib.rt:344:9
 add-j : tie.Need-add-j Inv-loop μ-loop
 add-j c = search needs
 
--- src/lib.rt:344:5
 loop-less : tie.Need-loop-less Inv-loop μ-loop
 loop-less c = search needs
 
--- src/lib.rt:344:5
 loop-again : tie.Need-loop-again Inv-loop μ-loop
 loop-again c =
     let a = c .before .before .before .before .before .before .before .before .args in
     (omega (arith, c .before .before .before .before .loop-test .taken), omega arith, cc (upTo-more (plant (a .earliest .now)) (a .trees .now) (c .before .before .before .before .before .loop .j)))
 
--- src/lib.rt:339:1
 same-length : tie.Need-same-length Inv-loop μ-loop
 same-length c = search needs
 
--- src/lib.rt:339:1
 returns : tie.Need-returns Inv-loop μ-loop
 unfolding plantAll
 returns c = let e : c .before .loop .j ≡ length (c .before .before .before .before .args .trees .now) = omega (arith, c .loop-test .left) in cc

@@ -1,3 +1,4 @@
+-- `forests::see_between` meets its contract. Whichever position is the later, the line is seen from it. Assumes nothing.
 use Rattle.forests.specs.Tables.{seeBetween}
 use borrow.Author.Tests.{lt-ltb, le-ltb}
 use mathlib.Core.Path.{_∙_}
@@ -8,44 +9,34 @@ use Rattle.forests.proofs.see_between.Reads as reads
 use Rattle.forests.proofs.see_between.Lts as lts
 use Rattle.forests.proofs.see_from.Reads as see-from-reads
 
--- src/lib.rt:216:9
 see-from-requires : tie.Need-see-from-requires
 see-from-requires c κs = (c .before .before .before .before .before .before .before .before .before .pre .1, c .before .before .before .before .before .before .before .before .before .pre .2, c .before .before .before .before .before .before .before .before .before .pre .3)
 
--- src/lib.rt:217:9
 same-length : tie.Need-same-length
 same-length c = search needs
 
--- src/lib.rt:217:9
 same-length-2 : tie.Need-same-length-2
 same-length-2 c = search needs
 
--- src/lib.rt:217:9
 same-length-3 : tie.Need-same-length-3
 same-length-3 c = search needs
 
--- src/lib.rt:217:9
 returns : tie.Need-returns
 unfolding seeBetween
 returns c = c .before .before .before .before .before .before .see-from .ensures ∙ rw (lt-ltb _ _ (c .before .before .before .before .before .before .before .before .before .before .if1 .taken))
 
--- src/lib.rt:219:5
 see-from-requires-2 : tie.Need-see-from-requires-2
 see-from-requires-2 c κs = (c .before .before .before .before .before .before .before .before .before .pre .0, c .before .before .before .before .before .before .before .before .before .pre .2, c .before .before .before .before .before .before .before .before .before .pre .3)
 
--- src/lib.rt:204:1
 same-length-4 : tie.Need-same-length-4
 same-length-4 c = search needs
 
--- src/lib.rt:204:1
 same-length-5 : tie.Need-same-length-5
 same-length-5 c = search needs
 
--- src/lib.rt:204:1
 same-length-6 : tie.Need-same-length-6
 same-length-6 c = search needs
 
--- src/lib.rt:204:1
 returns-2 : tie.Need-returns-2
 unfolding seeBetween
 returns-2 c = c .before .before .before .before .before .before .see-from2 .ensures ∙ rw (le-ltb _ _ (c .before .before .before .before .before .before .before .before .before .before .if1 .left))

@@ -1,8 +1,7 @@
-use lib.ListN.{length}
+-- `forests::see_from` meets its contract. Each return rewrites by the tests that led to it. Assumes nothing.
+use lib.ListN.{length, length-set}
 use mathlib.Core.Path.{_≡_, ap, _∙_}
-use Rattle.laws.specs.Fold.{pick}
-use lib.ListN.{getD, set, length-set}
-use mathlib.Core.Bool.{true, false}
+use mathlib.Core.Bool.{true}
 use native.Mathlib.Omega.{arith}
 use Rattle.forests.specs.Tables.{seeFrom}
 use borrow.Author.Tests.{lt-ltb, le-ltb}
@@ -13,74 +12,58 @@ use Rattle.forests.proofs.see_from.Tie as tie
 use Rattle.forests.proofs.see_from.Reads as reads
 use Rattle.forests.proofs.see_from.Lts as lts
 
--- src/lib.rt:189:13
 cast-j : tie.Need-cast-j
 cast-j c = search needs
 
--- src/lib.rt:190:20
 mul-if1 : tie.Need-mul-if1
 mul-if1 c = search needs
 
--- src/lib.rt:190:20
 slice-read-if1 : tie.Need-slice-read-if1
 slice-read-if1 c = search needs
 
--- src/lib.rt:191:12
 slice-read-if2 : tie.Need-slice-read-if2
 slice-read-if2 c = search needs
 
--- src/lib.rt:192:13
 slice-write-others : tie.Need-slice-write-others
 slice-write-others c = search needs
 
--- src/lib.rt:194:9
 mul-earliest : tie.Need-mul-earliest
 mul-earliest c = search needs
 
--- src/lib.rt:194:9
 slice-write-earliest : tie.Need-slice-write-earliest
 slice-write-earliest c = search needs
 
--- src/lib.rt:195:9
 slice-write-parents : tie.Need-slice-write-parents
 slice-write-parents c = search needs
 
--- src/lib.rt:196:9
 same-length : tie.Need-same-length
 same-length c = search needs
 
--- src/lib.rt:196:9
 same-length-2 : tie.Need-same-length-2
 same-length-2 c = search needs
 
--- src/lib.rt:196:9
 same-length-3 : tie.Need-same-length-3
 same-length-3 c =
     let a = c .before .before .before .before .before .before .args in
     let e : length (c .if2 .others) ≡ length (a .others .now) = ⊎-elim (λ w. ap length (w .1) ∙ length-set (a .others .now) (a .later .0) true) (λ w. ap length (w .1)) (c .if2 .came) in
     omega arith
 
--- src/lib.rt:196:9
 returns : tie.Need-returns
 unfolding seeFrom
 returns c =
     let e = lt-ltb _ _ (c .before .before .if1 .taken) in
     ⊎-elim (λ w. rw (e, w .1, w .0 .taken)) (λ w. rw (e, w .1, w .0 .left)) (c .if2 .came)
 
--- src/lib.rt:199:9
 slice-write-others-2 : tie.Need-slice-write-others-2
 slice-write-others-2 c = search needs
 
--- src/lib.rt:178:1
 same-length-4 : tie.Need-same-length-4
 same-length-4 c = search needs
 
--- src/lib.rt:178:1
 returns-2 : tie.Need-returns-2
 unfolding seeFrom
 returns-2 c = rw (le-ltb _ _ (c .before .if1 .left), c .if3 .taken)
 
--- src/lib.rt:178:1
 returns-3 : tie.Need-returns-3
 unfolding seeFrom
 returns-3 c = rw (le-ltb _ _ (c .before .if1 .left), c .if3 .left)
