@@ -1,1 +1,3 @@
 pub mod Tables
+pub mod Asking
+pub mod Pieces
