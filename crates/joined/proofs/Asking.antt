@@ -1,6 +1,5 @@
 -- What refusals 10 and 11 mean: the taken-away list is taken just when it rises strictly below n, and is refused at the first index
 -- that does not; a station may be asked about just when it remains. Assumes nothing.
-
 use Prim.Native.Nat.{ℕ, zero, suc, _+_, _-_, _<_, _≤_}
 use mathlib.Core.Path.{_≡_, refl, sym, ap, _∙_}
 use mathlib.Core.Bool.{Bool, true, false, _&&_, _||_, true≢false}

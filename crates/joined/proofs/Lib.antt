@@ -1,3 +1,4 @@
 pub mod Tables
 pub mod Asking
 pub mod Pieces
+pub mod Chains

@@ -1,8 +1,5 @@
 -- The laws of tables: what they lead to, and how they are shortened and joined.
 -- Assumes nothing.
-
--- ── lists ──
-
 use Prim.Native.Nat.{ℕ, zero, suc, _+_, _<_, _≤_}
 use mathlib.Core.Path.{_≡_, refl, sym, ap, _∙_}
 use mathlib.Core.List.{List, [], _∷_, _++_, map}
@@ -18,6 +15,8 @@ use lib.Seq.{getD-set-same, getD-set-other, getD-append-seam, ext-getD}
 use Rattle.laws.specs.Fold.{pick, upTo}
 use Rattle.joined.specs.Pieces.{alone, merge}
 use Rattle.joined.specs.Tables.{Leads}
+
+-- ── lists ──
 
 pub map-at : (f : ℕ → ℕ) (l : List ℕ) (v : ℕ) → v < length l → getD (map f l) v 0 ≡ f (getD l v 0)
 map-at f [] v h = absurd (omega arith)

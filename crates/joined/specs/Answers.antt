@@ -1,6 +1,5 @@
 -- What the joined question says, in the document's numbers.
 -- Assumes nothing.
-
 use mathlib.Core.Bool.{Bool, true, false}
 use Rattle.kinds.specs.Answers.{Answer, Answer.given, refusalAnswer}
 use Rattle.joined.specs.declared.Answered.{Answered}

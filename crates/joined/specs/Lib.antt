@@ -1,6 +1,7 @@
 pub mod Joined
 pub mod Pieces
 pub mod Asking
+pub mod Lowest
 pub mod Rising
 pub mod Answers
 pub mod Tables

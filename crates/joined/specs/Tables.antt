@@ -1,7 +1,5 @@
 -- How the pieces are found: a table whose entries lead each station down to the lowest of its piece.
 -- Only the helpers that find the pieces speak of it. Assumes nothing.
-
--- The table leads each station, through stations of its piece and never up, to the one that names the piece.
 use Prim.Native.Nat.{ℕ, _/_, _<_, _≤_}
 use mathlib.Core.Path.{_≡_}
 use mathlib.Core.Bool.{Bool, false}
@@ -10,6 +8,7 @@ use lib.ListN.{length, getD}
 use Rattle.network.specs.Lines.{endOne, endTwo}
 use Rattle.joined.specs.Pieces.{isAway}
 
+-- The table leads each station, through stations of its piece and never up, to the one that names the piece.
 pub record Leads (names table : List ℕ) : Type 0 where
   pub size : length table ≡ length names
   pub down : (v : ℕ) → v < length table → getD table v 0 ≤ v

@@ -252,14 +252,32 @@ fn judge_network(n: usize, lines: &[u16], away: &[u16]) -> Judged
     judge_away(n, away)
 }
 
-// Whether two stations are of one piece.
-fn same_piece(one: Station, two: Station, pieces: &[u16]) -> bool
-    requires { ⌜ (one .0 < length (now pieces)) × (two .0 < length (now pieces)) ⌝ }
-    ensures same { λ r. ⌜ r ≡ eqb (getD (now (pieces .entry)) (one .0) 0) (getD (now (pieces .entry)) (two .0) 0) ⌝ }
+// Whether two stations that remain are of one piece, with a table of n entries to work in.
+fn is_one_piece(
+    n: usize,
+    lines: &[u16],
+    gone: &[bool],
+    one: Station,
+    two: Station,
+    pieces: &mut [u16],
+) -> bool
+    requires { ⌜ Sound n (now lines) × (length (now gone) ≡ n) × (length (now pieces) ≡ n) × (one .0 < n) × (two .0 < n) ⌝ }
+    ensures piece { λ r. ⌜ ((away : List ℕ) → Gone away (now (gone .entry)) → r ≡ onePiece n (now (lines .entry)) (isAway away) (one .0) (two .0)) ⌝ }
 {
+    find_pieces(n, lines, gone, pieces);
     let a = one.0 as usize;
     let b = two.0 as usize;
     pieces[a] == pieces[b]
+}
+
+// What is said of two stations that are of one piece, or are not.
+fn answer_of(same: bool) -> Answered
+    ensures answer { λ r. ⌜ answeredAnswer r ≡ given same ⌝ }
+{
+    if same {
+        return Answered::Joined;
+    }
+    Answered::Apart
 }
 
 // The answer over a network and a taken-away list that are in order: 11, then whether the two are of one piece.
@@ -280,11 +298,7 @@ fn joined_among(
     if let Judged::Refused(refusal) = judged {
         return Answered::Refused(refusal);
     }
-    find_pieces(n, lines, gone, pieces);
-    if same_piece(one, two, pieces) {
-        return Answered::Joined;
-    }
-    Answered::Apart
+    answer_of(is_one_piece(n, lines, gone, one, two, pieces))
 }
 
 // The answer, with room for 1,024 marks and as many entries: 1, 2, lines, 10, and then the rest.
