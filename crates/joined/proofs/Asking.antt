@@ -9,10 +9,11 @@ use native.Mathlib.Decide.{ℕ-discrete, decLt, decLe}
 use native.Mathlib.Omega.{arith}
 use borrow.Author.Tests.{leb-false, eqb-true, lt-ltb, le-ltb, le-leb, lt-leb, eq-eqb, ne-eqb}
 use lib.Dec.{ltb, leb, eqb}
-use lib.ListN.{length, getD, set}
-use lib.Seq.{getD-set-same, getD-set-other}
+use lib.ListN.{length, getD, set, take, replicate}
+use lib.Seq.{getD-set-same, getD-set-other, getD-take, length-take-le}
 use Rattle.laws.specs.Fold.{anyFrom}
 use Rattle.laws.proofs.Fold.{FoundAt, FoundNone, first-cases, first-all, first-last, first-at, any-some, some-any, any-more}
+use Rattle.laws.proofs.Lists.{replicate-at}
 use Rattle.kinds.specs.Answers.{Answer, Answer.given, Answer.refused, taken, refuseIf, _andThen_, isRefused}
 use Rattle.kinds.proofs.Answers.{then-both, taken-is, passed}
 use Rattle.network.specs.Judging.{listJudged}
@@ -24,7 +25,7 @@ use Rattle.joined.specs.Pieces.{isAway}
 use Rattle.joined.specs.Joined.{Remains}
 use Rattle.joined.specs.Rising.{Rising, RisesAt, FirstUnrisen}
 use Rattle.joined.specs.Asking.{awayJudged, allAwayJudged, askedJudged}
-use Rattle.joined.specs.Tables.{Gone, isGone}
+use Rattle.joined.specs.Marks.{isGone, Unmarked, Gone}
 
 or-false : (x : Bool) → (x || false) ≡ x
 or-false true = refl
@@ -174,6 +175,16 @@ pub both-remain : (n : ℕ) (away : List ℕ) (a b : ℕ) → askedJudged n away
 both-remain n away a b e =
     let (x, y) = then-both (askedJudged n away 0 a) (askedJudged n away 1 b) (ap isRefused e) in
     (asked-remains away a n 0 x, asked-remains away b n 1 y)
+
+-- Among marks none of which is set, the first n have none that is; and so have those of an array of them.
+pub unmarked-part : (n : ℕ) (gone : List Bool) → n ≤ length gone → Unmarked gone → Unmarked (take n gone)
+unmarked-part n gone h u =
+    record {
+      none = λ v l. let k : v < n = omega (arith, length-take-le n gone h) in getD-take n gone v false k ∙ u .none v (omega arith);
+    }
+
+pub unmarked-array : (n : ℕ) → Unmarked (replicate n false)
+unmarked-array n = record { none = λ v l. replicate-at n v false }
 
 -- The first j numbers of the list are marked: with one mark more, the first j + 1 are.
 pub mark-next : (away : List ℕ) (gone : List Bool) (j : ℕ) → getD away j 0 < length gone

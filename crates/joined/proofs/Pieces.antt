@@ -13,7 +13,8 @@ use lib.ListN.{length, getD, set, length-map}
 use Rattle.laws.specs.Fold.{pick, upTo}
 use Rattle.network.specs.Lines.{network, endOne, endTwo, Proper}
 use Rattle.joined.specs.Pieces.{isAway, alone, merge, joinLine, piecesOf, onePiece}
-use Rattle.joined.specs.Tables.{Leads, Gone, isGone}
+use Rattle.joined.specs.Marks.{Gone, isGone}
+use Rattle.joined.specs.Tables.{Leads}
 use Rattle.joined.proofs.Tables.{map-at, alone-length, set-leads, name-low, name-own, join-leads, join-leads-back}
 
 -- ── two names become one ──

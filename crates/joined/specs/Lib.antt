@@ -5,4 +5,5 @@ pub mod Lowest
 pub mod Rising
 pub mod Right
 pub mod Answers
+pub mod Marks
 pub mod Tables

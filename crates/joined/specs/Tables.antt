@@ -2,11 +2,10 @@
 -- Only the helpers that find the pieces speak of it. Assumes nothing.
 use Prim.Native.Nat.{ℕ, _/_, _<_, _≤_}
 use mathlib.Core.Path.{_≡_}
-use mathlib.Core.Bool.{Bool, false}
+use mathlib.Core.Bool.{Bool}
 use mathlib.Core.List.{List}
 use lib.ListN.{length, getD}
 use Rattle.network.specs.Lines.{endOne, endTwo}
-use Rattle.joined.specs.Pieces.{isAway}
 
 -- The table leads each station, through stations of its piece and never up, to the one that names the piece.
 pub record Leads (names table : List ℕ) : Type 0 where
@@ -27,11 +26,3 @@ pub record Laid (lines : List ℕ) (gone : List Bool) (table : List ℕ) : Type 
   pub few : length lines ≤ 16384
   pub most : length table ≤ 1024
   pub marks : length gone ≡ length table
-
--- The stations that are taken away, as marks.
-abbrev pub isGone : List Bool → ℕ → Bool
-isGone gone v = getD gone v false
-
--- The marks say of each station whether it is in the taken-away list.
-pub record Gone (away : List ℕ) (gone : List Bool) : Type 0 where
-  pub says : (v : ℕ) → v < length gone → isGone gone v ≡ isAway away v

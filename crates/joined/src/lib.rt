@@ -9,11 +9,11 @@ use kinds::is_refused;
 use network::judge;
 use network::line_at;
 ghost use mathlib.Core.Path.{_≡_};
-ghost use mathlib.Core.Bool.{false, _||_};
+ghost use mathlib.Core.Bool.{_||_};
 ghost use mathlib.Core.List.{List};
 ghost use Prim.Native.Nat.{ℕ, _/_, _<_, _≤_};
 ghost use lib.Dec.{leb, eqb};
-ghost use lib.ListN.{length, getD, set, replicate};
+ghost use lib.ListN.{length, getD, set};
 ghost use Rattle.laws.specs.Fold.{upTo};
 ghost use Rattle.kinds.specs.Answers.{Answer.given, judgedAnswer, refuseIf, _andThen_};
 ghost use Rattle.kinds.specs.Refusals.{askedNumber};
@@ -23,7 +23,8 @@ ghost use Rattle.joined.specs.Answers.{answeredAnswer};
 ghost use Rattle.joined.specs.Asking.{awayJudged, allAwayJudged, askedJudged, joinedAnswer};
 ghost use Rattle.joined.specs.Pieces.{isAway, alone, merge, joinLine, piecesOf, onePiece};
 ghost use Rattle.joined.specs.Rising.{Rising};
-ghost use Rattle.joined.specs.Tables.{Leads, Leading, Laid, Gone, isGone};
+ghost use Rattle.joined.specs.Marks.{isGone, Unmarked, Gone};
+ghost use Rattle.joined.specs.Tables.{Leads, Leading, Laid};
 
 // What the joined question says: joined or apart, or why it refuses.
 pub enum Answered {
@@ -159,22 +160,11 @@ pub fn find_pieces(n: usize, lines: &[u16], gone: &[bool], pieces: &mut [u16])
     set_names(pieces);
 }
 
-// No station is marked as taken away.
-fn put_back(gone: &mut [bool])
-    ensures none { λ _. ⌜ now (gone .exit) ≡ replicate (length (now (gone .entry))) false ⌝ }
-{
-    let count = gone.len();
-    for v in 0..count {
-        gone[v] = false;
-    }
-}
-
-// Marks just the stations of the taken-away list.
+// Marks the stations of the taken-away list, where none is marked yet.
 fn take_away(away: &[u16], gone: &mut [bool])
-    requires { ⌜ Rising (length (now gone)) (now away) ⌝ }
+    requires { ⌜ Rising (length (now gone)) (now away) × Unmarked (now gone) ⌝ }
     ensures gone { λ _. ⌜ Gone (now (away .entry)) (now (gone .exit)) ⌝ }
 {
-    put_back(gone);
     let count = away.len();
     for j in 0..count {
         let v = away[j] as usize;
@@ -290,7 +280,7 @@ fn joined_among(
     gone: &mut [bool],
     pieces: &mut [u16],
 ) -> Answered
-    requires { ⌜ Sound n (now lines) × Rising n (now away) × (length (now gone) ≡ n) × (length (now pieces) ≡ n) ⌝ }
+    requires { ⌜ Sound n (now lines) × Rising n (now away) × (length (now gone) ≡ n) × Unmarked (now gone) × (length (now pieces) ≡ n) ⌝ }
     ensures answer { λ r. ⌜ answeredAnswer r ≡ (askedJudged n (now (away .entry)) 0 (one .0) andThen askedJudged n (now (away .entry)) 1 (two .0) andThen given (onePiece n (now (lines .entry)) (isAway (now (away .entry))) (one .0) (two .0))) ⌝ }
 {
     take_away(away, gone);
@@ -301,7 +291,7 @@ fn joined_among(
     answer_of(is_one_piece(n, lines, gone, one, two, pieces))
 }
 
-// The answer, with room for 1,024 marks and as many entries: 1, 2, lines, 10, and then the rest.
+// The answer, with room for 1,024 marks, none of them set, and as many entries: 1, 2, lines, 10, and then the rest.
 fn joined_within(
     n: usize,
     lines: &[u16],
@@ -311,7 +301,7 @@ fn joined_within(
     gone: &mut [bool],
     pieces: &mut [u16],
 ) -> Answered
-    requires { ⌜ (length (now gone) ≡ 1024) × (length (now pieces) ≡ 1024) ⌝ }
+    requires { ⌜ (length (now gone) ≡ 1024) × Unmarked (now gone) × (length (now pieces) ≡ 1024) ⌝ }
     ensures answer { λ r. ⌜ answeredAnswer r ≡ joinedAnswer n (now (lines .entry)) (now (away .entry)) (one .0) (two .0) ⌝ }
 {
     let judged = judge_network(n, lines, away);

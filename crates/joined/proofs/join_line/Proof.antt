@@ -5,7 +5,7 @@ use native.Mathlib.Omega.{arith}
 use borrow.Author.Needs.{needs}
 use Rattle.network.specs.Lines.{endOne, endTwo}
 use Rattle.joined.specs.Pieces.{joinLine}
-use Rattle.joined.specs.Tables.{isGone}
+use Rattle.joined.specs.Marks.{isGone}
 use Rattle.joined.proofs.join_line.Statement.{statement}
 use Rattle.joined.proofs.join_line.Tie as tie
 

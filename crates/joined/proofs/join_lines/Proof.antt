@@ -9,7 +9,8 @@ use lib.ListN.{length}
 use Rattle.laws.specs.Fold.{upTo}
 use Rattle.laws.proofs.Fold.{upTo-more}
 use Rattle.joined.specs.Pieces.{joinLine}
-use Rattle.joined.specs.Tables.{Leads, isGone}
+use Rattle.joined.specs.Marks.{isGone}
+use Rattle.joined.specs.Tables.{Leads}
 use Rattle.joined.proofs.join_lines.Statement.{statement}
 use Rattle.joined.proofs.join_lines.Tie as tie
 

@@ -10,7 +10,7 @@ use Rattle.joined.proofs.joined_among.Statement.{statement}
 use Rattle.joined.proofs.joined_among.Tie as tie
 
 take-away-requires : tie.Need-take-away-requires
-take-away-requires c κs = let r = c .before .before .before .before .before .pre .1 in record { below = λ j l. omega (arith, r .below j l); above = r .above }
+take-away-requires c κs = let r = c .before .before .before .before .before .pre .1 in (record { below = λ j l. omega (arith, r .below j l); above = r .above }, c .before .before .before .before .before .pre .3)
 
 judge-both-requires : tie.Need-judge-both-requires
 judge-both-requires c κs = omega arith

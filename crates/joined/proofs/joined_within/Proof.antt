@@ -7,7 +7,7 @@ use lib.Seq.{length-take-le}
 use Rattle.kinds.specs.Answers.{taken, refusalAnswer, _andThen_}
 use Rattle.network.specs.Judging.{listJudged}
 use Rattle.joined.specs.Asking.{allAwayJudged, joinedAnswer}
-use Rattle.joined.proofs.Asking.{then-refusal, then-taken, network-good}
+use Rattle.joined.proofs.Asking.{then-refusal, then-taken, network-good, unmarked-part}
 use Rattle.joined.proofs.joined_within.Statement.{statement}
 use Rattle.joined.proofs.joined_within.Tie as tie
 
@@ -73,7 +73,8 @@ joined-among-requires c κs =
     let e : list andThen all ≡ taken = sym (c .before .before .before .before .judge-network .ensures) ∙ rw (c .before .before .enum-told .given .1) in
     let (sound, rising) = network-good (a .n) (a .lines .now) (a .away .now) e in
     let most = sound .within .most in
-    (sound, rising, length-take-le (a .n) (a .gone .now) (omega arith), length-take-le (a .n) (a .pieces .now) (omega arith))
+    let marks = length-take-le (a .n) (a .gone .now) (omega arith) in
+    (sound, rising, marks, unmarked-part (a .n) (a .gone .now) (omega arith) (c .before .before .before .before .before .before .before .before .before .pre .1), length-take-le (a .n) (a .pieces .now) (omega arith))
 
 same-length : tie.Need-same-length
 same-length c = search needs

@@ -1,15 +1,13 @@
 -- `joined::take_away` meets its contract. The loop's invariant: a station is marked just when it stands among the first j of the list. The
 -- measure is the number of the list's stations left. Assumes nothing.
 use Prim.Native.Nat.{ℕ, _-_, _<_, _≤_}
-use mathlib.Core.Bool.{false}
 use mathlib.Core.Path.{_≡_, refl}
 use native.Mathlib.Omega.{arith}
 use borrow.Author.Needs.{needs}
 use lib.ListN.{length, getD, length-set}
 use lib.Dec.{eqb}
 use Rattle.laws.specs.Fold.{firstFrom, anyFrom}
-use Rattle.laws.proofs.Lists.{replicate-at}
-use Rattle.joined.specs.Tables.{isGone}
+use Rattle.joined.specs.Marks.{isGone}
 use Rattle.joined.specs.Pieces.{isAway}
 use Rattle.joined.proofs.Asking.{mark-next}
 use Rattle.joined.proofs.take_away.Statement.{statement}
@@ -21,12 +19,9 @@ Inv-loop away gone₀ count j₀ gone j = (j ≤ count) × (length gone ≡ leng
 abbrev μ-loop : tie.MeasureT-loop
 μ-loop away gone₀ count j₀ gone j = count - j
 
-put-back-requires : tie.Need-put-back-requires Inv-loop μ-loop
-put-back-requires c κs = search needs
-
 loop-holds : tie.Need-loop-holds Inv-loop μ-loop
 unfolding firstFrom
-loop-holds c = (search needs, refl, λ v h. rw (c .before .before .put-back .ensures) (replicate-at (length (c .before .before .before .before .before .before .args .gone .now)) v false))
+loop-holds c = (search needs, refl, λ v h. c .pre .1 .none v h)
 
 mul-v : tie.Need-mul-v Inv-loop μ-loop
 mul-v c = search needs
@@ -35,10 +30,10 @@ shared-slice-read-v : tie.Need-shared-slice-read-v Inv-loop μ-loop
 shared-slice-read-v c = search needs
 
 cast-v : tie.Need-cast-v Inv-loop μ-loop
-cast-v c = omega (arith, c .before .before .before .before .before .before .before .before .shared-slice-known .given (c .before .before .loop .j))
+cast-v c = omega (arith, c .shared-slice-known .given (c .before .before .loop .j))
 
 slice-write-gone : tie.Need-slice-write-gone Inv-loop μ-loop
-slice-write-gone c = omega (arith, c .before .before .before .before .before .before .before .before .before .pre .below (c .before .before .loop .j) (omega arith))
+slice-write-gone c = omega (arith, c .before .before .before .pre .0 .below (c .before .before .loop .j) (omega arith))
 
 add-j : tie.Need-add-j Inv-loop μ-loop
 add-j c = search needs
@@ -49,10 +44,10 @@ loop-less c = search needs
 loop-again : tie.Need-loop-again Inv-loop μ-loop
 loop-again c =
     let l = c .before .before .loop in
-    let away = c .before .before .before .before .before .before .before .before .before .args .away .now in (
+    let away = c .before .before .before .args .away .now in (
       omega arith,
       simp length-set (omega arith),
-      λ v h. mark-next away (l .gone) (l .j) (omega (arith, c .before .before .before .before .before .before .before .before .before .pre .below (l .j) (omega arith))) (l .inv .2) v (simp length-set at h),
+      λ v h. mark-next away (l .gone) (l .j) (omega (arith, c .before .before .before .pre .0 .below (l .j) (omega arith))) (l .inv .2) v (simp length-set at h),
     )
 
 same-length : tie.Need-same-length Inv-loop μ-loop
@@ -61,7 +56,7 @@ same-length c = omega arith
 returns : tie.Need-returns Inv-loop μ-loop
 unfolding isAway
 returns c =
-    let e : c .before .loop .j ≡ length (c .before .before .before .before .before .before .before .before .args .away .now) = omega arith in
+    let e : c .before .loop .j ≡ length (c .before .before .args .away .now) = omega arith in
     record { says = λ v h. rw e at (c .before .loop .inv .2 v h) }
 
 pub take-away-spec : {M : Type 1} → statement M
@@ -70,7 +65,6 @@ take-away-spec =
     (tie.spec
     Inv-loop
     μ-loop
-    put-back-requires
     loop-holds
     mul-v
     shared-slice-read-v
