@@ -83,6 +83,13 @@ module _ (names table : List ℕ) (t : Leads names table) where
   pub name-own : (v : ℕ) → v < length table → getD names (getD names v 0) 0 ≡ getD names v 0
   name-own v h = low (suc v) v (omega arith) h .own
 
+  -- What is the name of a station's piece is a station, and names itself.
+  pub named-in : (v : ℕ) {root : ℕ} → v < length table → root ≡ getD names v 0 → root < length table
+  named-in v h e = omega (arith, name-low v h)
+
+  pub named : (v : ℕ) {root : ℕ} → v < length table → root ≡ getD names v 0 → getD names root 0 ≡ root
+  named v h e = rw e (name-own v h)
+
   -- Two entries on, the piece is the same, and the station lower unless the first entry led nowhere.
   pub skip-same : (v : ℕ) → v < length table → getD names (getD table (getD table v 0) 0) 0 ≡ getD names v 0
   skip-same v h = t .same (getD table v 0) (omega (arith, t .down v h)) ∙ t .same v h

@@ -32,49 +32,43 @@ enum-told c = search needs
 slice-relend-prefix-joined-among : tie.Need-slice-relend-prefix-joined-among
 slice-relend-prefix-joined-among c =
     let a = c .before .before .before .before .before .before .before .args in
-    let list = listJudged 0 (a .n) (a .lines .now) in
-    let all = allAwayJudged (a .n) (a .away .now) in
-    let e : list andThen all ≡ taken = sym (c .before .before .judge-network .ensures) ∙ rw (c .enum-told .given .1) in
+    let e : listJudged 0 (a .n) (a .lines .now) andThen allAwayJudged (a .n) (a .away .now) ≡ taken = sym (c .before .before .judge-network .ensures) ∙ rw (c .enum-told .given .1) in
     let most = network-good (a .n) (a .lines .now) (a .away .now) e .0 .within .most in
     omega arith
 
 slice-aggregate-joined-among : tie.Need-slice-aggregate-joined-among
 slice-aggregate-joined-among c =
     let a = c .before .before .before .before .before .before .before .before .args in
-    let list = listJudged 0 (a .n) (a .lines .now) in
-    let all = allAwayJudged (a .n) (a .away .now) in
-    let e : list andThen all ≡ taken = sym (c .before .before .before .judge-network .ensures) ∙ rw (c .before .enum-told .given .1) in
+    let e : listJudged 0 (a .n) (a .lines .now) andThen allAwayJudged (a .n) (a .away .now) ≡ taken = sym (c .before .before .before .judge-network .ensures) ∙ rw (c .before .enum-told .given .1) in
     let most = network-good (a .n) (a .lines .now) (a .away .now) e .0 .within .most in
     sym (length-take-le (a .n) (a .gone .now) (omega arith))
 
 slice-relend-prefix-joined-among-2 : tie.Need-slice-relend-prefix-joined-among-2
 slice-relend-prefix-joined-among-2 c =
     let a = c .before .before .before .before .before .before .before .before .args in
-    let list = listJudged 0 (a .n) (a .lines .now) in
-    let all = allAwayJudged (a .n) (a .away .now) in
-    let e : list andThen all ≡ taken = sym (c .before .before .before .judge-network .ensures) ∙ rw (c .before .enum-told .given .1) in
+    let e : listJudged 0 (a .n) (a .lines .now) andThen allAwayJudged (a .n) (a .away .now) ≡ taken = sym (c .before .before .before .judge-network .ensures) ∙ rw (c .before .enum-told .given .1) in
     let most = network-good (a .n) (a .lines .now) (a .away .now) e .0 .within .most in
     omega arith
 
 slice-aggregate-joined-among-2 : tie.Need-slice-aggregate-joined-among-2
 slice-aggregate-joined-among-2 c =
     let a = c .before .before .before .before .before .before .before .before .before .args in
-    let list = listJudged 0 (a .n) (a .lines .now) in
-    let all = allAwayJudged (a .n) (a .away .now) in
-    let e : list andThen all ≡ taken = sym (c .before .before .before .before .judge-network .ensures) ∙ rw (c .before .before .enum-told .given .1) in
+    let e : listJudged 0 (a .n) (a .lines .now) andThen allAwayJudged (a .n) (a .away .now) ≡ taken = sym (c .before .before .before .before .judge-network .ensures) ∙ rw (c .before .before .enum-told .given .1) in
     let most = network-good (a .n) (a .lines .now) (a .away .now) e .0 .within .most in
     sym (length-take-le (a .n) (a .pieces .now) (omega arith))
 
 joined-among-requires : tie.Need-joined-among-requires
 joined-among-requires c κs =
     let a = c .before .before .before .before .before .before .before .before .before .args in
-    let list = listJudged 0 (a .n) (a .lines .now) in
-    let all = allAwayJudged (a .n) (a .away .now) in
-    let e : list andThen all ≡ taken = sym (c .before .before .before .before .judge-network .ensures) ∙ rw (c .before .before .enum-told .given .1) in
+    let e : listJudged 0 (a .n) (a .lines .now) andThen allAwayJudged (a .n) (a .away .now) ≡ taken = sym (c .before .before .before .before .judge-network .ensures) ∙ rw (c .before .before .enum-told .given .1) in
     let (sound, rising) = network-good (a .n) (a .lines .now) (a .away .now) e in
-    let most = sound .within .most in
-    let marks = length-take-le (a .n) (a .gone .now) (omega arith) in
-    (sound, rising, marks, unmarked-part (a .n) (a .gone .now) (omega arith) (c .before .before .before .before .before .before .before .before .before .pre .1), length-take-le (a .n) (a .pieces .now) (omega arith))
+    let most = sound .within .most in (
+      sound,
+      rising,
+      length-take-le (a .n) (a .gone .now) (omega arith),
+      unmarked-part (a .n) (a .gone .now) (omega arith) (c .before .before .before .before .before .before .before .before .before .pre .1),
+      length-take-le (a .n) (a .pieces .now) (omega arith),
+    )
 
 same-length : tie.Need-same-length
 same-length c = search needs

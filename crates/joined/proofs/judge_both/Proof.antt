@@ -32,7 +32,8 @@ returns-2 c =
     λ away g.
     let first = askedJudged (a .n) away 0 (a .one .0) in
     let same : judgedAnswer (c .before .before .before .judge-asked .result) ≡ first = c .before .before .before .judge-asked .ensures ∙ asked-marked away (a .one .0) (a .n) 0 (a .gone .now) (c .before .before .before .before .before .pre) g in
-    (c .judge-asked2 .ensures ∙ asked-marked away (a .two .0) (a .n) 1 (a .gone .now) (c .before .before .before .before .before .pre) g) ∙ sym (then-next first _ (ap isRefused (sym same) ∙ (sym (c .before .before .is-refused .ensures) ∙ c .before .if1 .left)))
+    let last : judgedAnswer (c .judge-asked2 .result) ≡ askedJudged (a .n) away 1 (a .two .0) = c .judge-asked2 .ensures ∙ asked-marked away (a .two .0) (a .n) 1 (a .gone .now) (c .before .before .before .before .before .pre) g in
+    last ∙ sym (then-next first _ (ap isRefused (sym same) ∙ (sym (c .before .before .is-refused .ensures) ∙ c .before .if1 .left)))
 
 pub judge-both-spec : {M : Type 1} → statement M
 judge-both-spec =

@@ -2,6 +2,7 @@
 -- measure is v, which falls at each entry that is not its own. Assumes nothing.
 use Prim.Native.Nat.{ℕ, _<_}
 use mathlib.Core.List.{List}
+use mathlib.Core.Logic.{_≢_}
 use mathlib.Core.Path.{_≡_, refl, sym, _∙_}
 use native.Mathlib.Omega.{arith}
 use borrow.Author.Tests.{eqb-true, eqb-false, not-true, not-false}
@@ -24,20 +25,26 @@ is-last-requires : tie.Need-is-last-requires Inv-loop μ-loop
 is-last-requires c κs = omega arith
 
 shorten-requires : tie.Need-shorten-requires Inv-loop μ-loop
-shorten-requires c κs = (omega arith, record { names = c .before .before .before .before .before .before .pre .1 .names; leads = c .before .before .before .before .loop .inv .2 (c .before .before .before .before .before .before .pre .1 .names) (c .before .before .before .before .before .before .pre .1 .leads) .0 })
+shorten-requires c κs =
+    let g = c .before .before .before .before .before .before .pre .1 in
+    (omega arith, record { names = g .names; leads = c .before .before .before .before .loop .inv .2 (g .names) (g .leads) .0 })
 
 loop-less : tie.Need-loop-less Inv-loop μ-loop
 loop-less c =
     let l = c .before .before .before .before .before .before .before .loop in
-    let t = l .inv .2 (c .before .before .before .before .before .before .before .before .before .pre .1 .names) (c .before .before .before .before .before .before .before .before .before .pre .1 .leads) .0 in
-    omega (arith, c .before .before .shorten .ensures .0, skip-less (c .before .before .before .before .before .before .before .before .before .pre .1 .names) (l .pieces) t (l .v .0) (omega arith) (eqb-false _ _ (sym (c .before .before .before .before .before .is-last .ensures) ∙ not-true _ (c .before .before .before .before .if1 .taken))))
+    let g = c .before .before .before .before .before .before .before .before .before .pre .1 in
+    let t = l .inv .2 (g .names) (g .leads) .0 in
+    let on : getD (l .pieces) (l .v .0) 0 ≢ l .v .0 = eqb-false _ _ (sym (c .before .before .before .before .before .is-last .ensures) ∙ not-true _ (c .before .before .before .before .if1 .taken)) in
+    omega (arith, c .before .before .shorten .ensures .0, skip-less (g .names) (l .pieces) t (l .v .0) (omega arith) on)
 
 loop-again : tie.Need-loop-again Inv-loop μ-loop
 loop-again c =
     let l = c .before .before .before .before .before .before .before .loop in
+    let g = c .before .before .before .before .before .before .before .before .before .pre .1 in
+    let t = l .inv .2 (g .names) (g .leads) .0 in
     let s = c .before .before .shorten .ensures in
-    let t = l .inv .2 (c .before .before .before .before .before .before .before .before .before .pre .1 .names) (c .before .before .before .before .before .before .before .before .before .pre .1 .leads) .0 in (
-      omega (arith, s .0, t .down (l .v .0) (omega arith), t .down (getD (l .pieces) (l .v .0) 0) (omega (arith, t .down (l .v .0) (omega arith)))),
+    let on : getD (l .pieces) (l .v .0) 0 ≢ l .v .0 = eqb-false _ _ (sym (c .before .before .before .before .before .is-last .ensures) ∙ not-true _ (c .before .before .before .before .if1 .taken)) in (
+      omega (arith, s .0, skip-less (g .names) (l .pieces) t (l .v .0) (omega arith) on),
       omega arith,
       λ names leads.
           let k = l .inv .2 names leads in

@@ -24,7 +24,9 @@ cast-t6 : tie.Need-cast-t6 Inv-loop μ-loop
 cast-t6 c = search needs
 
 shorten-requires : tie.Need-shorten-requires Inv-loop μ-loop
-shorten-requires c κs = (omega arith, record { names = c .before .before .before .before .pre .1 .names; leads = c .before .before .loop .inv .2 (c .before .before .before .before .pre .1 .names) (c .before .before .before .before .pre .1 .leads) .0 })
+shorten-requires c κs =
+    let g = c .before .before .before .before .pre .1 in
+    (omega arith, record { names = g .names; leads = c .before .before .loop .inv .2 (g .names) (g .leads) .0 })
 
 add-v : tie.Need-add-v Inv-loop μ-loop
 add-v c = search needs
