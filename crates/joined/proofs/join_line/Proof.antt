@@ -1,6 +1,6 @@
 -- `joined::join_line` meets its contract. Each return rewrites the definition by the tests that led to it. Assumes nothing.
+use mathlib.Core.Path.{_≡_, sym, ap, _∙_}
 use mathlib.Core.Bool.{true, false}
-use mathlib.Core.Path.{_≡_, sym, _∙_}
 use native.Mathlib.Omega.{arith}
 use borrow.Author.Needs.{needs}
 use Rattle.network.specs.Lines.{endOne, endTwo}
@@ -24,7 +24,7 @@ unfolding joinLine
 returns c =
     let a = c .before .before .before .before .before .before .before .before .args in
     let l = c .before .before .before .before .line-at .ensures in
-    let e : isGone (a .gone .now) (endOne (a .lines .now) (a .place .0)) ≡ true = rw (l .0) at (sym (c .before .is-gone .ensures) ∙ c .if1 .taken) in
+    let e : isGone (a .gone .now) (endOne (a .lines .now) (a .place .0)) ≡ true = ap (isGone (a .gone .now)) (sym (l .0)) ∙ (sym (c .before .is-gone .ensures) ∙ c .if1 .taken) in
     λ names leads. rw e leads
 
 is-gone-requires-2 : tie.Need-is-gone-requires-2
@@ -39,8 +39,8 @@ unfolding joinLine
 returns-2 c =
     let a = c .before .before .before .before .before .before .before .before .before .before .args in
     let l = c .before .before .before .before .before .before .line-at .ensures in
-    let e : isGone (a .gone .now) (endOne (a .lines .now) (a .place .0)) ≡ false = rw (l .0) at (sym (c .before .before .before .is-gone .ensures) ∙ c .before .before .if1 .left) in
-    let f : isGone (a .gone .now) (endTwo (a .lines .now) (a .place .0)) ≡ true = rw (l .1) at (sym (c .before .is-gone2 .ensures) ∙ c .if2 .taken) in
+    let e : isGone (a .gone .now) (endOne (a .lines .now) (a .place .0)) ≡ false = ap (isGone (a .gone .now)) (sym (l .0)) ∙ (sym (c .before .before .before .is-gone .ensures) ∙ c .before .before .if1 .left) in
+    let f : isGone (a .gone .now) (endTwo (a .lines .now) (a .place .0)) ≡ true = ap (isGone (a .gone .now)) (sym (l .1)) ∙ (sym (c .before .is-gone2 .ensures) ∙ c .if2 .taken) in
     λ names leads. rw (e, f) leads
 
 join-ends-requires : tie.Need-join-ends-requires
@@ -58,8 +58,8 @@ unfolding joinLine
 returns-3 c =
     let a = c .before .before .before .before .before .before .before .before .before .before .before .before .before .before .args in
     let l = c .before .before .before .before .before .before .before .before .before .before .line-at .ensures in
-    let e : isGone (a .gone .now) (endOne (a .lines .now) (a .place .0)) ≡ false = rw (l .0) at (sym (c .before .before .before .before .before .before .before .is-gone .ensures) ∙ c .before .before .before .before .before .before .if1 .left) in
-    let f : isGone (a .gone .now) (endTwo (a .lines .now) (a .place .0)) ≡ false = rw (l .1) at (sym (c .before .before .before .before .before .is-gone2 .ensures) ∙ c .before .before .before .before .if2 .left) in
+    let e : isGone (a .gone .now) (endOne (a .lines .now) (a .place .0)) ≡ false = ap (isGone (a .gone .now)) (sym (l .0)) ∙ (sym (c .before .before .before .before .before .before .before .is-gone .ensures) ∙ c .before .before .before .before .before .before .if1 .left) in
+    let f : isGone (a .gone .now) (endTwo (a .lines .now) (a .place .0)) ≡ false = ap (isGone (a .gone .now)) (sym (l .1)) ∙ (sym (c .before .before .before .before .before .is-gone2 .ensures) ∙ c .before .before .before .before .if2 .left) in
     λ names leads. rw (e, f) (rw (l .0, l .1) at (c .before .before .join-ends .ensures names leads))
 
 pub join-line-spec : {M : Type 1} → statement M

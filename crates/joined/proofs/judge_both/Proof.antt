@@ -1,10 +1,13 @@
--- `joined::judge_both` meets its contract. The marks say which stations are in the list, so what they refuse is what the definition
--- refuses. Assumes nothing.
+-- `joined::judge_both` meets its contract. The marks say which stations are in the list, so their judge and the definition's agree. Assumes
+-- nothing.
+use mathlib.Core.Bool.{_||_}
 use mathlib.Core.Path.{_≡_, sym, ap, _∙_}
 use borrow.Author.Needs.{needs}
-use Rattle.kinds.specs.Answers.{judgedAnswer, isRefused}
+use lib.Dec.{leb}
+use Rattle.kinds.specs.Answers.{refuseIf, judgedAnswer, isRefused}
 use Rattle.kinds.proofs.Answers.{then-next, then-refused}
 use Rattle.joined.specs.Asking.{askedJudged}
+use Rattle.joined.specs.Marks.{isGone}
 use Rattle.joined.proofs.Asking.{asked-marked}
 use Rattle.joined.proofs.judge_both.Statement.{statement}
 use Rattle.joined.proofs.judge_both.Tie as tie
@@ -32,8 +35,8 @@ returns-2 c =
     λ away g.
     let first = askedJudged (a .n) away 0 (a .one .0) in
     let same : judgedAnswer (c .before .before .before .judge-asked .result) ≡ first = c .before .before .before .judge-asked .ensures ∙ asked-marked away (a .one .0) (a .n) 0 (a .gone .now) (c .before .before .before .before .before .pre) g in
-    let last : judgedAnswer (c .judge-asked2 .result) ≡ askedJudged (a .n) away 1 (a .two .0) = c .judge-asked2 .ensures ∙ asked-marked away (a .two .0) (a .n) 1 (a .gone .now) (c .before .before .before .before .before .pre) g in
-    last ∙ sym (then-next first _ (ap isRefused (sym same) ∙ (sym (c .before .before .is-refused .ensures) ∙ c .before .if1 .left)))
+    let word : judgedAnswer (c .judge-asked2 .result) ≡ refuseIf (leb (a .n) (a .two .0) || isGone (a .gone .now) (a .two .0)) 11 1 0 = c .judge-asked2 .ensures in
+    (word ∙ asked-marked away (a .two .0) (a .n) 1 (a .gone .now) (c .before .before .before .before .before .pre) g) ∙ sym (then-next first _ (ap isRefused (sym same) ∙ (sym (c .before .before .is-refused .ensures) ∙ c .before .if1 .left)))
 
 pub judge-both-spec : {M : Type 1} → statement M
 judge-both-spec =
