@@ -1,0 +1,201 @@
+-- What refusals 10 and 11 mean: the taken-away list is taken just when it rises strictly below n, and is refused at the first index
+-- that does not; a station may be asked about just when it remains. Assumes nothing.
+use Prim.Native.Nat.{ℕ, zero, suc, _+_, _-_, _<_, _≤_}
+use mathlib.Core.Path.{_≡_, refl, sym, ap, _∙_}
+use mathlib.Core.Bool.{Bool, true, false, _&&_, _||_, true≢false}
+use mathlib.Core.List.{List}
+use mathlib.Core.Logic.{_⊎_, _⊎_.inl, _⊎_.inr}
+use native.Mathlib.Decide.{ℕ-discrete, decLt, decLe}
+use native.Mathlib.Omega.{arith}
+use borrow.Author.Tests.{leb-false, eqb-true, lt-ltb, le-ltb, le-leb, lt-leb, eq-eqb, ne-eqb}
+use lib.Dec.{ltb, leb, eqb}
+use lib.ListN.{length, getD, set, take, replicate}
+use lib.Seq.{getD-set-same, getD-set-other, getD-take, length-take-le}
+use Rattle.laws.specs.Fold.{anyFrom}
+use Rattle.laws.proofs.Fold.{FoundAt, FoundNone, first-cases, first-all, first-last, first-at, any-some, some-any, any-more}
+use Rattle.laws.proofs.Lists.{replicate-at}
+use Rattle.kinds.specs.Answers.{Answer, Answer.given, Answer.refused, taken, refuseIf, _andThen_, isRefused}
+use Rattle.kinds.proofs.Answers.{then-both, taken-is, passed}
+use Rattle.network.specs.Judging.{listJudged}
+use Rattle.network.specs.Faults.{Sound}
+use Rattle.network.proofs.Ends.{or-true}
+use Rattle.network.proofs.Judging.{neither}
+use Rattle.network.proofs.Sound.{taken-sound}
+use Rattle.joined.specs.Pieces.{isAway}
+use Rattle.joined.specs.Joined.{Remains}
+use Rattle.joined.specs.Rising.{Rising, RisesAt, FirstUnrisen}
+use Rattle.joined.specs.Asking.{awayJudged, allAwayJudged, askedJudged}
+use Rattle.joined.specs.Marks.{isGone, Unmarked, Gone}
+
+or-false : (x : Bool) → (x || false) ≡ x
+or-false true = refl
+or-false false = refl
+
+-- Tries in order are one after the other, however they are grouped.
+then-group : {A : Type 0} (a b : Answer (Unit {0})) (c : Answer A) → (a andThen b) andThen c ≡ a andThen (b andThen c)
+then-group (given x) b c = refl
+then-group (refused number place list) b c = refl
+
+-- The first two of three tries refuse, or are taken.
+pub then-refusal : {A : Type 0} (a b : Answer (Unit {0})) (c : Answer A) {number place list : ℕ} → a andThen b ≡ refused number place list
+    → refused number place list ≡ a andThen (b andThen c)
+then-refusal a b c e = rw e at (then-group a b c)
+
+pub then-taken : {A : Type 0} (a b : Answer (Unit {0})) (c : Answer A) → a andThen b ≡ taken → c ≡ a andThen (b andThen c)
+then-taken a b c e = rw e at (then-group a b c)
+
+-- ── 10 ──
+
+module _ (n : ℕ) (away : List ℕ) where
+  module _ (j : ℕ) where
+    pub rises-at : isRefused (awayJudged n away j) ≡ false → RisesAt n away j
+    unfolding awayJudged
+    rises-at e =
+        let up = leb (getD away j 0) (getD away (j - 1) 0) in
+        let (x, y) = neither (leb n (getD away j 0)) (ltb 0 j && up) (passed (leb n (getD away j 0) || (ltb 0 j && up)) 10 j 0 e) in
+        record { below = leb-false n (getD away j 0) x; above = λ h. leb-false (getD away j 0) (getD away (j - 1) 0) (rw (lt-ltb 0 j h) at y) }
+
+    at-rises : RisesAt n away j → awayJudged n away j ≡ taken
+    unfolding awayJudged
+    at-rises r = rw (lt-leb n (getD away j 0) (r .below)) (go (decLt 0 j))
+      where
+        go : Dec (0 < j) → refuseIf (ltb 0 j && leb (getD away j 0) (getD away (j - 1) 0)) 10 j 0 ≡ taken
+        go (yes h) = rw (lt-ltb 0 j h, lt-leb (getD away j 0) (getD away (j - 1) 0) (r .above h))
+        go (no m) = rw (le-ltb 0 j (omega arith))
+
+    -- an index at which the list does not rise
+    not-risen : isRefused (awayJudged n away j) ≡ true → ¬ RisesAt n away j
+    not-risen e r = true≢false (sym e ∙ ap isRefused (at-rises r))
+
+    unrisen : ¬ RisesAt n away j → awayJudged n away j ≡ refused 10 j 0
+    unfolding awayJudged
+    unrisen m = go (leb n (getD away j 0) || (ltb 0 j && leb (getD away j 0) (getD away (j - 1) 0))) refl
+      where
+        go : (b : Bool) → (leb n (getD away j 0) || (ltb 0 j && leb (getD away j 0) (getD away (j - 1) 0))) ≡ b → refuseIf b 10 j 0 ≡ refused 10 j 0
+        go true e = refl
+        go false e = absurd (m (rises-at (rw e)))
+
+  -- a list that rises below n has few numbers
+  high : (j : ℕ) → ((i : ℕ) → i < suc j → RisesAt n away i) → j ≤ getD away j 0
+  high zero h = omega arith
+  high (suc j) h =
+      let e : suc j - 1 ≡ j = omega arith in
+      let r : getD away j 0 < getD away (suc j) 0 = rw e at (h (suc j) (omega arith) .above (omega arith)) in
+      omega (arith, high j (λ i l. h i (omega arith)))
+
+  pub few-risen : (q : ℕ) → ((j : ℕ) → j < q → isRefused (awayJudged n away j) ≡ false) → q ≤ n
+  few-risen zero h = omega arith
+  few-risen (suc q) h = omega (arith, high q (λ i l. rises-at i (h i l)), rises-at q (h q (omega arith)) .below)
+
+  rising-at : Rising n away → (j : ℕ) → j < length away → RisesAt n away j
+  rising-at r j l = record { below = r .below j l; above = λ h. let e : j - 1 + 1 ≡ j = omega arith in rw e at (r .above (j - 1) (omega arith)) }
+
+  at-rising : ((j : ℕ) → j < length away → RisesAt n away j) → Rising n away
+  at-rising h =
+      record {
+        below = λ j l. h j l .below;
+        above = λ j l. let e : j + 1 - 1 ≡ j = omega arith in rw e at (h (j + 1) l .above (omega arith));
+      }
+
+  -- THEOREM. The list is taken just when it rises strictly below n.
+  pub taken-rising : isRefused (allAwayJudged n away) ≡ false → Rising n away
+  unfolding allAwayJudged
+  taken-rising e = at-rising (λ j l. rises-at j (first-all isRefused (awayJudged n away) taken (length away) e j l))
+
+  pub rising-taken : Rising n away → allAwayJudged n away ≡ taken
+  unfolding allAwayJudged
+  rising-taken r = first-last isRefused (awayJudged n away) taken (length away) (λ j l. ap isRefused (at-rises j (rising-at r j l)))
+
+  -- THEOREM. It is refused, by 10, just at the first index where it does not.
+  pub unrisen-refused : (j : ℕ) → FirstUnrisen n away j → allAwayJudged n away ≡ refused 10 j 0
+  unfolding allAwayJudged
+  unrisen-refused j f =
+      first-at isRefused (awayJudged n away) taken (length away) j (f .index) (ap isRefused (unrisen j (f .fault))) (λ i l. ap isRefused (at-rises i (f .earlier i l)))
+      ∙ unrisen j (f .fault)
+
+  pub refused-unrisen : {number place list : ℕ} → allAwayJudged n away ≡ refused number place list → (number ≡ 10) × (list ≡ 0) × FirstUnrisen n away place
+  unfolding allAwayJudged
+  refused-unrisen {number} {place} {list} e = go (first-cases isRefused (awayJudged n away) taken 0 (length away))
+    where
+      go : FoundAt isRefused (awayJudged n away) 0 (length away) (allAwayJudged n away)
+          ⊎ FoundNone isRefused (awayJudged n away) taken 0 (length away) (allAwayJudged n away)
+          → (number ≡ 10) × (list ≡ 0) × FirstUnrisen n away place
+      go (inr r) = absurd (true≢false (ap isRefused (sym e ∙ r .is)))
+      go (inl r) =
+          let fault = not-risen (r .place) (r .passes) in
+          let same : _≡_ {A = Answer (Unit {0})} (refused 10 (r .place) 0) (refused number place list) = sym (unrisen (r .place) fault) ∙ (sym (r .is) ∙ e) in
+          let at : r .place ≡ place = cc in
+          let first : FirstUnrisen n away (r .place) =
+          record { index = omega (arith, r .below); fault = fault; earlier = λ i l. rises-at i (r .earlier i (omega arith) l) } in
+          (cc, cc, rw at at first)
+
+-- ── which stations are taken away, and 11 ──
+
+module _ (away : List ℕ) (v : ℕ) where
+  -- THEOREM. A station is taken away just when it stands in the list.
+  pub away-stands : isAway away v ≡ true → (j : ℕ) × (j < length away) × (getD away j 0 ≡ v)
+  unfolding isAway
+  away-stands e =
+      let (j, l, f) = any-some (λ j. eqb (getD away j 0) v) (length away) e in
+      (j, l, eqb-true (getD away j 0) v f)
+
+  pub stands-away : (j : ℕ) → j < length away → getD away j 0 ≡ v → isAway away v ≡ true
+  unfolding isAway
+  stands-away j l e = some-any (λ j. eqb (getD away j 0) v) (length away) j l (eq-eqb (getD away j 0) v e)
+
+  -- THEOREM. A station may be asked about just when it remains.
+  pub asked-remains : (n which : ℕ) → isRefused (askedJudged n away which v) ≡ false → Remains n (isAway away) v
+  unfolding askedJudged
+  asked-remains n which e =
+      let (x, y) = neither (leb n v) (isAway away v) (passed (leb n v || isAway away v) 11 which 0 e) in
+      record { station = leb-false n v x; stays = y }
+
+  pub remains-asked : (n which : ℕ) → Remains n (isAway away) v → askedJudged n away which v ≡ taken
+  unfolding askedJudged
+  remains-asked n which r = rw (lt-leb n v (r .station), r .stays)
+
+  -- the same, by the marks
+  pub asked-marked : (n which : ℕ) (gone : List Bool) → length gone ≡ n → Gone away gone
+      → refuseIf (leb n v || isGone gone v) 11 which 0 ≡ askedJudged n away which v
+  unfolding askedJudged
+  asked-marked n which gone size g = go (decLe n v)
+    where
+      go : Dec (n ≤ v) → refuseIf (leb n v || isGone gone v) 11 which 0 ≡ refuseIf (leb n v || isAway away v) 11 which 0
+      go (yes h) = rw (le-leb n v h)
+      go (no m) = rw (g .says v (omega arith))
+
+-- What is known once 1, 2, lines and 10 are tried, and once 11 is.
+pub network-good : (n : ℕ) (lines away : List ℕ) → listJudged 0 n lines andThen allAwayJudged n away ≡ taken → Sound n lines × Rising n away
+network-good n lines away e =
+    let (x, y) = then-both (listJudged 0 n lines) (allAwayJudged n away) (ap isRefused e) in
+    (taken-sound 0 n lines (taken-is (listJudged 0 n lines) x), taken-rising n away y)
+
+pub both-remain : (n : ℕ) (away : List ℕ) (a b : ℕ) → askedJudged n away 0 a andThen askedJudged n away 1 b ≡ taken
+    → Remains n (isAway away) a × Remains n (isAway away) b
+both-remain n away a b e =
+    let (x, y) = then-both (askedJudged n away 0 a) (askedJudged n away 1 b) (ap isRefused e) in
+    (asked-remains away a n 0 x, asked-remains away b n 1 y)
+
+-- Among marks none of which is set, the first n have none that is; and so have those of an array of them.
+pub unmarked-part : (n : ℕ) (gone : List Bool) → n ≤ length gone → Unmarked gone → Unmarked (take n gone)
+unmarked-part n gone h u =
+    record {
+      none = λ v l. let k : v < n = omega (arith, length-take-le n gone h) in getD-take n gone v false k ∙ u .none v (omega arith);
+    }
+
+pub unmarked-array : (n : ℕ) → Unmarked (replicate n false)
+unmarked-array n = record { none = λ v l. replicate-at n v false }
+
+-- The first j numbers of the list are marked: with one mark more, the first j + 1 are.
+pub mark-next : (away : List ℕ) (gone : List Bool) (j : ℕ) → getD away j 0 < length gone
+    → ((v : ℕ) → v < length gone → isGone gone v ≡ anyFrom (λ i. eqb (getD away i 0) v) 0 j)
+    → (v : ℕ) → v < length gone → isGone (set gone (getD away j 0) true) v ≡ anyFrom (λ i. eqb (getD away i 0) v) 0 (j + 1)
+mark-next away gone j l before v h = rw (any-more (λ i. eqb (getD away i 0) v) j) (go (ℕ-discrete v (getD away j 0)))
+  where
+    go : Dec (v ≡ getD away j 0) → isGone (set gone (getD away j 0) true) v ≡ (anyFrom (λ i. eqb (getD away i 0) v) 0 j || eqb (getD away j 0) v)
+    go (yes e) =
+        rw (eq-eqb (getD away j 0) v (sym e), or-true (anyFrom (λ i. eqb (getD away i 0) v) 0 j))
+        (rw e (getD-set-same gone (getD away j 0) true false l))
+    go (no m) =
+        rw (ne-eqb (getD away j 0) v (λ (e : getD away j 0 ≡ v). m (sym e)), or-false (anyFrom (λ i. eqb (getD away i 0) v) 0 j))
+        (getD-set-other gone (getD away j 0) v true false m ∙ before v h)

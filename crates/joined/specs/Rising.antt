@@ -1,0 +1,31 @@
+-- What refusals 10 and 11 are about: a list that rises strictly below n, and stations that may be asked about.
+-- Assumes nothing.
+use Prim.Native.Nat.{ℕ, _+_, _-_, _<_}
+use mathlib.Core.List.{List}
+use lib.ListN.{length, getD}
+use Rattle.network.specs.Faults.{Sound}
+use Rattle.joined.specs.Pieces.{isAway}
+use Rattle.joined.specs.Joined.{Remains}
+
+-- Every number is below n, and above the one before it.
+pub record Rising (n : ℕ) (away : List ℕ) : Type 0 where
+  pub below : (j : ℕ) → j < length away → getD away j 0 < n
+  pub above : (j : ℕ) → j + 1 < length away → getD away j 0 < getD away (j + 1) 0
+
+-- The number at index j is below n, and above the one before it, if there is one.
+pub record RisesAt (n : ℕ) (away : List ℕ) (j : ℕ) : Type 0 where
+  pub below : getD away j 0 < n
+  pub above : 0 < j → getD away (j - 1) 0 < getD away j 0
+
+-- The first index at which the list does not rise below n.
+pub record FirstUnrisen (n : ℕ) (away : List ℕ) (j : ℕ) : Type 0 where
+  pub index : j < length away
+  pub fault : ¬ RisesAt n away j
+  pub earlier : (i : ℕ) → i < j → RisesAt n away i
+
+-- What may be asked: a sound network, a rising list, and two stations that remain.
+pub record Question (n : ℕ) (lines away : List ℕ) (a b : ℕ) : Type 0 where
+  pub sound : Sound n lines
+  pub rising : Rising n away
+  pub first : Remains n (isAway away) a
+  pub second : Remains n (isAway away) b
