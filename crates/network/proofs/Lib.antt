@@ -2,3 +2,4 @@ pub mod Pairs
 pub mod Ends
 pub mod Judging
 pub mod Sound
+pub mod Chains

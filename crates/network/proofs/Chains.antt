@@ -1,0 +1,60 @@
+-- The laws of chains: they join end to end, turn back, and go along with what becomes of each single hop.
+-- Assumes nothing.
+use Prim.Native.Nat.{ℕ, _<_}
+use Rattle.network.specs.Lines.{Network, Joins, Joins.forth, Joins.back, Proper}
+use Rattle.network.specs.Chains.{Hop, Hop.by, Chain, Chain.here, Chain.step}
+
+-- ── lines and hops ──
+
+pub joins-back : {g : Network} {p u v : ℕ} → Joins g p u v → Joins g p v u
+joins-back (forth x y) = back x y
+joins-back (back x y) = forth x y
+
+-- The ends of a line are stations.
+pub joins-in : {g : Network} {p u v : ℕ} → Proper g → p < g .lines → Joins g p u v → u < g .stations
+joins-in {p = p} proper l (forth x y) = rw x at (proper .one-in p l)
+joins-in {p = p} proper l (back x y) = rw y at (proper .two-in p l)
+
+pub hop-back : {g : Network} {uses : ℕ → Type 0} {u v : ℕ} → Hop g uses u v → Hop g uses v u
+hop-back (by p l h j) = by p l h (joins-back j)
+
+pub hop-in : {g : Network} {uses : ℕ → Type 0} {u v : ℕ} → Proper g → Hop g uses u v → u < g .stations
+hop-in proper (by p l h j) = joins-in proper l j
+
+-- More lines may be used.
+pub hop-wider : {g : Network} {uses uses′ : ℕ → Type 0} {u v : ℕ} → ((p : ℕ) → p < g .lines → uses p → uses′ p) → Hop g uses u v → Hop g uses′ u v
+hop-wider f (by p l h j) = by p l (f p l h) j
+
+-- ── chains ──
+
+pub chain-start : {hop : ℕ → ℕ → Type 0} {stays : ℕ → Type 0} {u v : ℕ} → Chain hop stays u v → stays u
+chain-start (here s) = s
+chain-start (step s h c) = s
+
+pub chain-end : {hop : ℕ → ℕ → Type 0} {stays : ℕ → Type 0} {u v : ℕ} → Chain hop stays u v → stays v
+chain-end (here s) = s
+chain-end (step s h c) = chain-end c
+
+pub chain-hop : {hop : ℕ → ℕ → Type 0} {stays : ℕ → Type 0} {u v : ℕ} → stays u → stays v → hop u v → Chain hop stays u v
+chain-hop s t h = step s h (here t)
+
+pub chain-join : {hop : ℕ → ℕ → Type 0} {stays : ℕ → Type 0} {u v w : ℕ} → Chain hop stays u v → Chain hop stays v w → Chain hop stays u w
+chain-join (here s) d = d
+chain-join (step s h c) d = step s h (chain-join c d)
+
+pub chain-back : {hop : ℕ → ℕ → Type 0} {stays : ℕ → Type 0} → ((u v : ℕ) → hop u v → hop v u)
+    → {u v : ℕ} → Chain hop stays u v → Chain hop stays v u
+chain-back f (here s) = here s
+chain-back f (step s h c) = chain-join (chain-back f c) (chain-hop (chain-start c) s (f _ _ h))
+
+-- A chain of one kind of hop is one of another, if each single hop between stations that stay is.
+pub chain-by : {hop hop′ : ℕ → ℕ → Type 0} {stays : ℕ → Type 0}
+    → ((u v : ℕ) → stays u → stays v → hop u v → Chain hop′ stays u v)
+    → {u v : ℕ} → Chain hop stays u v → Chain hop′ stays u v
+chain-by f (here s) = here s
+chain-by f (step s h c) = chain-join (f _ _ s (chain-start c) h) (chain-by f c)
+
+-- The same, where each hop becomes a hop.
+pub chain-hops : {hop hop′ : ℕ → ℕ → Type 0} {stays : ℕ → Type 0} → ((u v : ℕ) → hop u v → hop′ u v)
+    → {u v : ℕ} → Chain hop stays u v → Chain hop′ stays u v
+chain-hops f c = chain-by (λ u v s t h. chain-hop s t (f u v h)) c
