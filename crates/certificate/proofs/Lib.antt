@@ -1,0 +1,5 @@
+pub mod Rounds
+pub mod Colours
+pub mod Cut
+pub mod Decidable
+pub mod KeptJoined
