@@ -23,22 +23,22 @@ use Rattle.network.proofs.Judging.{ends-good}
 
 module _ (n : ℕ) (lines : List ℕ) where
   -- line q has the ends a and b, as the test says it and as the type says it
-  joins-same : (q a b : ℕ) → sameEnds a b (endOne lines q) (endTwo lines q) ≡ true → Joins (network n lines) q a b
+  pub joins-same : (q a b : ℕ) → sameEnds a b (endOne lines q) (endTwo lines q) ≡ true → Joins (network n lines) q a b
   joins-same q a b e = go (same-ends a b (endOne lines q) (endTwo lines q) e)
     where
       go : ((a ≡ endOne lines q) × (b ≡ endTwo lines q)) ⊎ ((a ≡ endTwo lines q) × (b ≡ endOne lines q)) → Joins (network n lines) q a b
       go (inl (x, y)) = forth (sym x) (sym y)
       go (inr (x, y)) = back (sym y) (sym x)
 
-  same-joins : (q a b : ℕ) → Joins (network n lines) q a b → sameEnds a b (endOne lines q) (endTwo lines q) ≡ true
+  pub same-joins : (q a b : ℕ) → Joins (network n lines) q a b → sameEnds a b (endOne lines q) (endTwo lines q) ≡ true
   same-joins q a b (forth x y) = ends-same a b (endOne lines q) (endTwo lines q) (inl (sym x, sym y))
   same-joins q a b (back x y) = ends-same a b (endOne lines q) (endTwo lines q) (inr (sym y, sym x))
 
-  not-stood : (p a b : ℕ) → stoodBefore lines p a b ≡ false → (q : ℕ) → q < p → ¬ Joins (network n lines) q a b
+  pub not-stood : (p a b : ℕ) → stoodBefore lines p a b ≡ false → (q : ℕ) → q < p → ¬ Joins (network n lines) q a b
   not-stood p a b e q h j =
       true≢false (sym (same-joins q a b j) ∙ first-all (λ x. x) (λ q. sameEnds a b (endOne lines q) (endTwo lines q)) false p e q h)
 
-  stood-not : (p a b : ℕ) → ((q : ℕ) → q < p → ¬ Joins (network n lines) q a b) → stoodBefore lines p a b ≡ false
+  pub stood-not : (p a b : ℕ) → ((q : ℕ) → q < p → ¬ Joins (network n lines) q a b) → stoodBefore lines p a b ≡ false
   stood-not p a b h = first-last (λ x. x) (λ q. sameEnds a b (endOne lines q) (endTwo lines q)) false p (λ q l. go q l (sameEnds a b (endOne lines q) (endTwo lines q)) refl)
     where
       go : (q : ℕ) → q < p → (x : Bool) → sameEnds a b (endOne lines q) (endTwo lines q) ≡ x → sameEnds a b (endOne lines q) (endTwo lines q) ≡ false
