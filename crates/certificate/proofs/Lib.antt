@@ -3,3 +3,5 @@ pub mod Colours
 pub mod Cut
 pub mod Decidable
 pub mod KeptJoined
+pub mod Kept
+pub mod Few
