@@ -5,3 +5,5 @@ pub mod Decidable
 pub mod KeptJoined
 pub mod Kept
 pub mod Few
+pub mod AlikeLaws
+pub mod Demand3
