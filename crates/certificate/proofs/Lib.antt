@@ -7,3 +7,4 @@ pub mod Kept
 pub mod Few
 pub mod AlikeLaws
 pub mod Demand3
+pub mod Counterexample
