@@ -19,7 +19,8 @@ use Rattle.network.specs.Faults.{Sound}
 use Rattle.network.proofs.Chains.{joins-in, joins-back}
 use Rattle.forests.specs.Published.{Greedy}
 use Rattle.forests.specs.Plans.{InPlay, OfRank, PlanMeets}
-use Rattle.kept.specs.Kept.{isKept, keptOf}
+use Rattle.kept.specs.Kept.{isKept, keptLines, keptOf}
+use Rattle.kept.proofs.Copying.{copy-size}
 use Rattle.laws.proofs.Injections.{count-below}
 use Rattle.certificate.proofs.Rounds.{arrow-once}
 
@@ -112,3 +113,8 @@ module _ {n k : ℕ} {lines ranks orders : List ℕ} (sound : Sound n lines) (me
       let m = length lines / 2 in
       let all : count m (isKept ranks) ≤ count m (keptBy ranks k) = total-le m _ _ (λ p l. all-by ranks p k (meets .ranks-most p l)) in
       omega (arith, rounds-few k (omega arith))
+
+  -- THEOREM. The list of kept lines has at most so many lines.
+  pub kept-lines-few : length (keptLines lines ranks) / 2 ≤ k * (n - 1)
+  unfolding keptLines keptOf
+  kept-lines-few = omega (arith, kept-few, copy-size lines ranks (length lines / 2))

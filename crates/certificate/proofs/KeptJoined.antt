@@ -82,11 +82,11 @@ module _ {n k : ℕ} {lines ranks orders : List ℕ} (sound : Sound n lines) (me
   split : (u v p : ℕ) → Remains n away u → Remains n away v → Joins (network n lines) p u v → ¬ KeptJoined u v → Split (network n lines) ranks 1 p (paint u)
   split u v p su sv j none =
       record {
-        x = u;
-        y = v;
+        near-end = u;
+        far-end = v;
         ends = j;
-        x-near = near-colour (away u) (dec-joined u u) (su .stays) (here su);
-        y-far = far-colour (away v) (dec-joined u v) (sv .stays) none;
+        is-near = near-colour (away u) (dec-joined u u) (su .stays) (here su);
+        is-far = far-colour (away v) (dec-joined u v) (sv .stays) none;
         uncrossed = λ q x y l k j′ ex ey. cross q x y l k j′ (colour-near (away x) (dec-joined u x) ex) (colour-far (away y) (dec-joined u y) ey);
       }
     where

@@ -7,4 +7,5 @@ pub mod Kept
 pub mod Few
 pub mod AlikeLaws
 pub mod Demand3
+pub mod Seven
 pub mod Counterexample
