@@ -1,5 +1,6 @@
 -- Demand 3, its last sentence: "pruning each at k, uniting what is kept and pruning that at k, from any starts that pruning takes,
--- gives a list alike at k to the union of the two originals". Assumes nothing.
+-- gives a list alike at k to the union of the two originals". Assumes, as the argument `pruned-meets`, that what pruning gives
+-- meets the definition; nothing else.
 use Prim.Native.Nat.{ℕ, _<_, _≤_}
 use mathlib.Core.List.{List}
 use native.Mathlib.Omega.{arith}
