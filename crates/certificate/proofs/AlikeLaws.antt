@@ -8,7 +8,7 @@ use Rattle.laws.specs.Count.{count}
 use Rattle.network.specs.Lines.{network}
 use Rattle.network.specs.Chains.{Hop, Every}
 use Rattle.network.specs.Faults.{Sound}
-use Rattle.network.proofs.Chains.{chain-hop, chain-by, chain-hops}
+use Rattle.network.proofs.Chains.{chain-hop, chain-by, chain-map}
 use Rattle.joined.specs.Joined.{Remains, Joined}
 use Rattle.unite.specs.Union.{united}
 use Rattle.unite.proofs.Neighbours.{united-hop}
@@ -34,8 +34,8 @@ united-joins : {n k : ℕ} {a a′ b b′ : List ℕ} → Sound n a → Sound n 
 united-joins {n} {k} {a} {a′} {b} {b′} sa sb sa′ sb′ alike alike′ away few c = chain-by (λ u v ru rv h. go u v ru rv (united-hop sa sb u v .0 h)) c
   where
     go : (u v : ℕ) → Remains n away u → Remains n away v → Hop (network n a) Every u v ⊎ Hop (network n b) Every u v → Joined n (united a′ b′) away u v
-    go u v ru rv (inl h) = chain-hops (λ u v k. united-hop sa′ sb′ u v .1 (inl k)) (alike .same away few u v ru rv .0 (chain-hop ru rv h))
-    go u v ru rv (inr h) = chain-hops (λ u v k. united-hop sa′ sb′ u v .1 (inr k)) (alike′ .same away few u v ru rv .0 (chain-hop ru rv h))
+    go u v ru rv (inl h) = chain-map (λ u v k. united-hop sa′ sb′ u v .1 (inl k)) (alike .same away few u v ru rv .0 (chain-hop ru rv h))
+    go u v ru rv (inr h) = chain-map (λ u v k. united-hop sa′ sb′ u v .1 (inr k)) (alike′ .same away few u v ru rv .0 (chain-hop ru rv h))
 
 -- THEOREM. Lists that are alike have unions that are alike.
 pub alike-united : {n k : ℕ} {a a′ b b′ : List ℕ} → Sound n a → Sound n b → Sound n a′ → Sound n b′ → Alike n k a a′ → Alike n k b b′

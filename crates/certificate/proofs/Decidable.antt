@@ -8,7 +8,7 @@ use native.Mathlib.Decide.{map-dec, ℕ-discrete, decLt}
 use Rattle.network.specs.Lines.{Network, Joins, Joins.forth, Joins.back}
 use Rattle.network.specs.Chains.{Hop, Hop.by, Chain, Chain.here, Chain.step}
 use Rattle.laws.proofs.Decide.{dec-and, dec-or}
-use Rattle.network.proofs.Chains.{hop-wider, chain-end, chain-join, chain-hops}
+use Rattle.network.proofs.Chains.{hop-map, chain-end, chain-join, chain-map}
 
 module _ (g : Network) (uses : ℕ → Type 0) (stays : ℕ → Type 0) where
   -- joined by lines below m
@@ -20,7 +20,7 @@ module _ (g : Network) (uses : ℕ → Type 0) (stays : ℕ → Type 0) where
   Via m u v = UpTo m u v ⊎ (((m < g .lines) × uses m) × ((UpTo m u (g .one m) × UpTo m (g .two m) v) ⊎ (UpTo m u (g .two m) × UpTo m (g .one m) v)))
 
   more : {m u v : ℕ} → UpTo m u v → UpTo (suc m) u v
-  more {m} c = chain-hops (λ u v h. hop-wider (λ p _ (k : (p < m) × uses p). (omega arith, k .1)) h) c
+  more {m} c = chain-map (λ u v h. hop-map (λ p _ (k : (p < m) × uses p). (omega arith, k .1)) h) c
 
   upto-via : (m u v : ℕ) → Via m u v → UpTo (suc m) u v
   upto-via m u v (inl c) = more c
@@ -66,6 +66,6 @@ module _ (g : Network) (uses : ℕ → Type 0) (stays : ℕ → Type 0) where
     pub dec-chain : (u v : ℕ) → Dec (Chain (Hop g uses) stays u v)
     dec-chain u v =
         map-dec
-        (chain-hops (λ u v h. hop-wider (λ p _ (k : (p < g .lines) × uses p). k .1) h))
-        (chain-hops (λ u v h. hop-wider (λ p l (k : uses p). (l, k)) h))
+        (chain-map (λ u v h. hop-map (λ p _ (k : (p < g .lines) × uses p). k .1) h))
+        (chain-map (λ u v h. hop-map (λ p l (k : uses p). (l, k)) h))
         (dec-upto (g .lines) u v)

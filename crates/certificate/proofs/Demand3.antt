@@ -6,7 +6,7 @@ use mathlib.Core.List.{List}
 use native.Mathlib.Omega.{arith}
 use lib.ListN.{length, getD}
 use Rattle.network.specs.Faults.{Sound}
-use Rattle.network.proofs.Chains.{hop-wider}
+use Rattle.network.proofs.Chains.{hop-map}
 use Rattle.forests.specs.Plans.{PlanMeets}
 use Rattle.kept.specs.Kept.{keptLines}
 use Rattle.prune.specs.Pruning.{pruned}
@@ -30,7 +30,7 @@ pub kept-united-sound : {n : ℕ} {a b : List ℕ} → Sound n a → Sound n b �
 kept-united-sound {n} {a} {b} sa sb few ranks ranks′ =
     let sa′ = kept-sound sa ranks in
     let sb′ = kept-sound sb ranks′ in
-    let shorter = united-fewer sa sb sa′ sb′ (λ u v h. hop-wider (λ p _ _. tt) (kept-hop sa ranks u v .0 h)) (λ u v h. hop-wider (λ p _ _. tt) (kept-hop sb ranks′ u v .0 h)) in
+    let shorter = united-fewer sa sb sa′ sb′ (λ u v h. hop-map (λ p _ _. tt) (kept-hop sa ranks u v .0 h)) (λ u v h. hop-map (λ p _ _. tt) (kept-hop sb ranks′ u v .0 h)) in
     united-sound sa′ sb′ (omega arith)
 
 -- `pruned-meets`: what pruning gives meets the definition.

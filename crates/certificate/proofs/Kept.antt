@@ -15,7 +15,7 @@ use Rattle.laws.proofs.Count.{count-most}
 use Rattle.network.specs.Lines.{endOne, endTwo, network, Joins, Joins.forth}
 use Rattle.network.specs.Chains.{Hop, Hop.by, Every}
 use Rattle.network.specs.Faults.{Sound}
-use Rattle.network.proofs.Chains.{hop-wider, chain-hops}
+use Rattle.network.proofs.Chains.{hop-map, chain-map}
 use Rattle.network.proofs.Longer.{Neighbours, neighbours-as, neighbours-none, neighbours-more}
 use Rattle.forests.specs.Plans.{PlanMeets}
 use Rattle.kept.specs.Kept.{isKept, copyLine, keptLines}
@@ -29,7 +29,7 @@ module _ {n : ℕ} {lines : List ℕ} (sound : Sound n lines) (ranks : List ℕ)
   Before p = Hop (network n lines) (λ q. (q < p) × IsKept ranks q)
 
   before-wider : {p u v : ℕ} → Before p u v → Before (suc p) u v
-  before-wider {p} h = hop-wider (λ q _ (k : (q < p) × IsKept ranks q). (omega arith, k .1)) h
+  before-wider {p} h = hop-map (λ q _ (k : (q < p) × IsKept ranks q). (omega arith, k .1)) h
 
   -- one place more: by an earlier line, or by the line at place p if it is kept
   before-more : {p u v : ℕ} → Before (suc p) u v → Before p u v ⊎ (IsKept ranks p × Joins (network n lines) p u v)
@@ -70,8 +70,8 @@ module _ {n : ℕ} {lines : List ℕ} (sound : Sound n lines) (ranks : List ℕ)
   -- THEOREM. Two stations are neighbours in the kept lines exactly when a line of nonzero rank joins them.
   pub kept-hop : (u v : ℕ) → Hop (network n (keptLines lines ranks)) Every u v ↔ Hop (network n lines) (λ p. IsKept ranks p) u v
   kept-hop u v = (
-    λ h. hop-wider (λ q _ (k : (q < length lines / 2) × IsKept ranks q). k .1) (kept .has u v h),
-    λ h. kept .all u v (hop-wider (λ q l (k : IsKept ranks q). (l, k)) h),
+    λ h. hop-map (λ q _ (k : (q < length lines / 2) × IsKept ranks q). k .1) (kept .has u v h),
+    λ h. kept .all u v (hop-map (λ q l (k : IsKept ranks q). (l, k)) h),
   )
 
   kept-length : length (keptLines lines ranks) ≤ length lines
@@ -91,7 +91,7 @@ pub kept-alike : {n k : ℕ} {lines ranks orders : List ℕ} → Sound n lines �
 kept-alike {n} {k} {lines} {ranks} sound meets =
     record {
       same = λ away few u v _ _. (
-        λ c. chain-hops (λ u v h. kept-hop sound ranks u v .1 h) (joined-kept sound meets away few c),
-        λ c. chain-hops (λ u v h. hop-wider (λ p _ _. tt) (kept-hop sound ranks u v .0 h)) c,
+        λ c. chain-map (λ u v h. kept-hop sound ranks u v .1 h) (joined-kept sound meets away few c),
+        λ c. chain-map (λ u v h. hop-map (λ p _ _. tt) (kept-hop sound ranks u v .0 h)) c,
       );
     }

@@ -9,11 +9,11 @@ use lib.Dec.{eqb}
 use Rattle.network.specs.Judging.{sameEnds}
 
 -- Both tests hold, and one of two tests holds.
-both-true : (x y : Bool) → (x && y) ≡ true → (x ≡ true) × (y ≡ true)
+pub both-true : (x y : Bool) → (x && y) ≡ true → (x ≡ true) × (y ≡ true)
 both-true true y e = (refl, e)
 both-true false y e = absurd (true≢false (sym e))
 
-either-true : (x y : Bool) → (x || y) ≡ true → (x ≡ true) ⊎ (y ≡ true)
+pub either-true : (x y : Bool) → (x || y) ≡ true → (x ≡ true) ⊎ (y ≡ true)
 either-true true y e = inl refl
 either-true false y e = inr e
 

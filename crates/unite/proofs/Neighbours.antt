@@ -16,7 +16,7 @@ use Rattle.network.specs.Lines.{endOne, endTwo, network, Joins, Joins.forth, Jo
 use Rattle.network.specs.Chains.{Hop, Hop.by, Every}
 use Rattle.network.specs.Faults.{Sound}
 use Rattle.network.specs.Judging.{sameEnds, stoodBefore}
-use Rattle.network.proofs.Chains.{hop-back, hop-wider}
+use Rattle.network.proofs.Chains.{hop-back, hop-map}
 use Rattle.network.proofs.Longer.{Neighbours, neighbours-as, neighbours-more}
 use Rattle.network.proofs.Sound.{joins-same, not-stood}
 use Rattle.unite.specs.Union.{addLine, united}
@@ -28,7 +28,7 @@ module _ {n : ℕ} {first second : List ℕ} (one : Sound n first) (two : Sound 
 
   wider : {p u v : ℕ} → InEither p u v → InEither (suc p) u v
   wider (inl h) = inl h
-  wider {p} (inr h) = inr (hop-wider (λ q _ (k : q < p). omega arith) h)
+  wider {p} (inr h) = inr (hop-map (λ q _ (k : q < p). omega arith) h)
 
   -- one place more: as before, or by the line of the second at place p
   more : {p u v : ℕ} → InEither (suc p) u v → InEither p u v ⊎ Joins (network n second) p u v
@@ -77,8 +77,8 @@ module _ {n : ℕ} {first second : List ℕ} (one : Sound n first) (two : Sound 
   -- THEOREM. Two stations are neighbours in the union exactly when in one of the two lists.
   pub united-hop : (u v : ℕ) → Hop (network n (united first second)) Every u v ↔ (Hop (network n first) Every u v ⊎ Hop (network n second) Every u v)
   united-hop u v = (
-    λ h. elim (union .has u v h) [ inl k ↦ inl k | inr k ↦ inr (hop-wider (λ q _ _. tt) k) ],
-    λ h. union .all u v (elim h [ inl k ↦ inl k | inr k ↦ inr (hop-wider (λ q l _. l) k) ]),
+    λ h. elim (union .has u v h) [ inl k ↦ inl k | inr k ↦ inr (hop-map (λ q _ _. tt) k) ],
+    λ h. union .all u v (elim h [ inl k ↦ inl k | inr k ↦ inr (hop-map (λ q l _. l) k) ]),
   )
 
   -- THEOREM. The union of two sound lists is simple, and sound where it is within the line limit.
