@@ -1,1 +1,2 @@
 pub mod Neighbours
+pub mod Judging
