@@ -6,6 +6,8 @@ pub mod KeptJoined
 pub mod Kept
 pub mod Few
 pub mod AlikeLaws
+pub mod Pruned
+pub mod Answers
 pub mod Demand3
 pub mod Seven
 pub mod Counterexample
