@@ -9,9 +9,8 @@ use lib.Dec.{ltb}
 use lib.ListN.{length}
 use Rattle.kinds.specs.Answers.{Answer.given, taken, _andThen_, isRefused}
 use Rattle.kinds.proofs.Answers.{then-both, taken-is, passed, then-given}
-use Rattle.network.specs.Lines.{Within}
 use Rattle.network.specs.Faults.{Sound}
-use Rattle.network.specs.Judging.{stationsJudged, lengthJudged, linesJudged}
+use Rattle.network.specs.Judging.{stationsJudged, lengthJudged, linesJudged, listJudged}
 use Rattle.network.proofs.Judging.{stations-good, length-good}
 use Rattle.network.proofs.Sound.{within-taken, lines-only, taken-sound, sound-taken}
 use Rattle.request.specs.Judging.{roomJudged}
@@ -24,6 +23,14 @@ pub record Unites (n : ℕ) (first second : List ℕ) (room : ℕ) : Type 0 wher
   pub few : length (united first second) ≤ 16384
   pub fits : length (united first second) ≤ room
 
+-- Once n and a list's length are right, judging the list is judging its lines.
+pub sized-list : (list n : ℕ) (lines : List ℕ) → isRefused (stationsJudged n) ≡ false → isRefused (lengthJudged list lines) ≡ false
+    → listJudged list n lines ≡ linesJudged list n lines
+sized-list list n lines s l =
+    let (some, most) = stations-good n s in
+    let (even, few) = length-good list lines l in
+    lines-only list n lines (record { some = some; most = most; even = even; few = few })
+
 -- The two lists are sound just where they are not refused.
 module _ (n : ℕ) (first second : List ℕ) where
   pub lists-sound : isRefused (listsJudged n first second) ≡ false → Sound n first × Sound n second
@@ -32,14 +39,9 @@ module _ (n : ℕ) (first second : List ℕ) where
       let (s, e₁) = then-both (stationsJudged n) (lengthJudged 1 first andThen lengthJudged 2 second andThen linesJudged 1 n first andThen linesJudged 2 n second) e in
       let (l, e₂) = then-both (lengthJudged 1 first) (lengthJudged 2 second andThen linesJudged 1 n first andThen linesJudged 2 n second) e₁ in
       let (m, e₃) = then-both (lengthJudged 2 second) (linesJudged 1 n first andThen linesJudged 2 n second) e₂ in
-      let (a, b) = then-both (linesJudged 1 n first) (linesJudged 2 n second) e₃ in
-      let (some, most) = stations-good n s in
-      let (even, few) = length-good 1 first l in
-      let (even′, few′) = length-good 2 second m in
-      let one : Within n first = record { some = some; most = most; even = even; few = few } in
-      let two : Within n second = record { some = some; most = most; even = even′; few = few′ } in (
-        taken-sound 1 n first (lines-only 1 n first one ∙ taken-is (linesJudged 1 n first) a),
-        taken-sound 2 n second (lines-only 2 n second two ∙ taken-is (linesJudged 2 n second) b),
+      let (a, b) = then-both (linesJudged 1 n first) (linesJudged 2 n second) e₃ in (
+        taken-sound 1 n first (sized-list 1 n first s l ∙ taken-is (linesJudged 1 n first) a),
+        taken-sound 2 n second (sized-list 2 n second s m ∙ taken-is (linesJudged 2 n second) b),
       )
 
   pub sound-lists : Sound n first → Sound n second → listsJudged n first second ≡ taken

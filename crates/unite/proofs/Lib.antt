@@ -1,2 +1,3 @@
 pub mod Neighbours
 pub mod Judging
+pub mod Adding
