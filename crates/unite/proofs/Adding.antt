@@ -1,7 +1,7 @@
 -- The laws of adding lines: where the set of pairs remembers the first list, the lines that it lacks are those that the list lacks,
 -- and what is added line by line is the union. Assumes nothing.
 use Prim.Native.Nat.{ℕ, zero, suc, _+_, _*_, _/_, _<_, _≤_}
-use mathlib.Core.Path.{_≡_, refl, _∙_}
+use mathlib.Core.Path.{_≡_, refl, ap, _∙_}
 use mathlib.Core.Bool.{Bool, true, false, not}
 use mathlib.Core.List.{List, [], _∷_, _++_}
 use native.Mathlib.Numerals.{add-one}
@@ -43,15 +43,17 @@ copy-next lines room i h k =
 
 module _ (pairs first second : List ℕ) (remembers : Remembers pairs first (length first / 2)) (proper : Proper (network 1024 second)) where
   -- a line is new to the set just where the first list lacks it
+  new-lacks : (p : ℕ) → p < length second / 2 → isNew pairs second p ≡ not (stoodBefore first (length first / 2) (endOne second p) (endTwo second p))
+  unfolding isNew
+  new-lacks p l = ap not (remembers .exactly (endOne second p) (endTwo second p) (proper .one-in p l) (proper .two-in p l) (proper .apart p l))
+
   add-same : (p : ℕ) → p < length second / 2 → (union : List ℕ) → addNew pairs second p union ≡ addLine first second p union
-  unfolding addNew addLine isNew
-  add-same p l union =
-      rw (remembers .exactly (endOne second p) (endTwo second p) (proper .one-in p l) (proper .two-in p l) (proper .apart p l))
-      (go (stoodBefore first (length first / 2) (endOne second p) (endTwo second p)))
+  unfolding addNew addLine
+  add-same p l union = rw (new-lacks p l) (go (stoodBefore first (length first / 2) (endOne second p) (endTwo second p)) (union ++ (endOne second p ∷ (endTwo second p ∷ []))))
     where
-      go : (b : Bool) → pick (not b) (union ++ (endOne second p ∷ (endTwo second p ∷ []))) union ≡ pick b union (union ++ (endOne second p ∷ (endTwo second p ∷ [])))
-      go true = refl
-      go false = refl
+      go : (b : Bool) (longer : List ℕ) → pick (not b) longer union ≡ pick b union longer
+      go true longer = refl
+      go false longer = refl
 
   added-same : (p : ℕ) → p ≤ length second / 2 → upTo (addNew pairs second) first p ≡ upTo (addLine first second) first p
   unfolding upTo

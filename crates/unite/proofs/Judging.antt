@@ -4,6 +4,7 @@ use Prim.Native.Nat.{ℕ, _/_, _≤_}
 use mathlib.Core.Path.{_≡_, sym, ap, _∙_}
 use mathlib.Core.Bool.{false}
 use mathlib.Core.List.{List}
+use native.Mathlib.Omega.{arith}
 use borrow.Author.Tests.{ltb-false, le-ltb}
 use lib.Dec.{ltb}
 use lib.ListN.{length}
@@ -14,7 +15,7 @@ use Rattle.network.specs.Judging.{stationsJudged, lengthJudged, linesJudged, li
 use Rattle.network.proofs.Judging.{stations-good, length-good}
 use Rattle.network.proofs.Sound.{within-taken, lines-only, taken-sound, sound-taken}
 use Rattle.request.specs.Judging.{roomJudged}
-use Rattle.unite.specs.Union.{united, listsJudged, unionJudged, sizeAnswer, unionAnswer}
+use Rattle.unite.specs.Union.{united, listsJudged, unionJudged, unionShort, sizeAnswer, unionAnswer}
 
 -- What is known of a union that is not refused.
 pub record Unites (n : ℕ) (first second : List ℕ) (room : ℕ) : Type 0 where
@@ -53,25 +54,35 @@ module _ (n : ℕ) (first second : List ℕ) where
       let b = sym (lines-only 2 n second (two .within)) ∙ sound-taken 2 n second two in
       rw (s, l, m, a, b)
 
+-- What the tests of the union's size mean.
+module _ (first second : List ℕ) where
+  pub union-few : isRefused (unionJudged first second) ≡ false → length (united first second) ≤ 16384
+  unfolding unionJudged
+  union-few e = let h = passed (ltb 16384 (length (united first second))) 13 0 0 e in omega (arith, ltb-false)
+
+  pub union-fits : (room : ℕ) → unionShort first second room ≡ false → length (united first second) ≤ room
+  unfolding unionShort
+  union-fits room e = omega (arith, ltb-false)
+
 module _ (n : ℕ) (first second : List ℕ) (room : ℕ) where
   pub given-unites : {count : ℕ} → unionAnswer n first second room ≡ given count → Unites n first second room
-  unfolding unionAnswer sizeAnswer unionJudged roomJudged
+  unfolding unionAnswer sizeAnswer roomJudged
   given-unites {count} e =
       let size = length (united first second) in
-      let last = roomJudged (ltb room size) andThen given (size / 2) in
-      let (j, e₁) = then-given (listsJudged n first second) (unionJudged first second andThen last) e in
-      let (u, e₂) = then-given (unionJudged first second) last e₁ in
-      let (r, e₃) = then-given (roomJudged (ltb room size)) (given (size / 2)) e₂ in
-      let (one, two) = lists-sound n first second (ap isRefused j) in
+      let last = roomJudged (unionShort first second room) andThen given (size / 2) in
+      let (lists, e₁) = then-given (listsJudged n first second) (unionJudged first second andThen last) e in
+      let (union, e₂) = then-given (unionJudged first second) last e₁ in
+      let (short, e₃) = then-given (roomJudged (unionShort first second room)) (given (size / 2)) e₂ in
+      let (one, two) = lists-sound n first second (ap isRefused lists) in
       record {
         one = one;
         two = two;
-        few = ltb-false 16384 size (passed (ltb 16384 size) 13 0 0 (ap isRefused u));
-        fits = ltb-false room size (passed (ltb room size) 5 0 0 (ap isRefused r));
+        few = union-few first second (ap isRefused union);
+        fits = union-fits first second room (passed (unionShort first second room) 5 0 0 (ap isRefused short));
       }
 
   pub unites-given : Unites n first second room → unionAnswer n first second room ≡ given (length (united first second) / 2)
-  unfolding unionAnswer sizeAnswer unionJudged roomJudged
+  unfolding unionAnswer sizeAnswer unionJudged unionShort roomJudged
   unites-given u =
       let size = length (united first second) in
       rw (sound-lists n first second (u .one) (u .two), le-ltb 16384 size (u .few), le-ltb room size (u .fits))

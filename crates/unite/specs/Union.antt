@@ -1,6 +1,7 @@
 -- The union of two lists: the first list, then those lines of the second that the first lacks, in order and as written there.
 -- Assumes nothing.
 use Prim.Native.Nat.{ℕ, _/_}
+use mathlib.Core.Bool.{Bool}
 use mathlib.Core.List.{List, [], _∷_, _++_}
 use lib.ListN.{length}
 use lib.Dec.{ltb}
@@ -31,11 +32,15 @@ listsJudged n first second =
 unfoldable pub unionJudged : List ℕ → List ℕ → Answer (Unit {0})
 unionJudged first second = refuseIf (ltb 16384 (length (united first second))) 13 0 0
 
+-- Whether the room for numbers is too short for the union.
+unfoldable pub unionShort : List ℕ → List ℕ → ℕ → Bool
+unionShort first second room = ltb room (length (united first second))
+
 -- What uniting answers where the lists are not refused, given the room for numbers: 13; 5; else how many lines.
 unfoldable pub sizeAnswer : List ℕ → List ℕ → ℕ → Answer ℕ
 sizeAnswer first second room =
     unionJudged first second
-    andThen roomJudged (ltb room (length (united first second)))
+    andThen roomJudged (unionShort first second room)
     andThen given (length (united first second) / 2)
 
 -- What uniting answers: 1; 2 for each list; lines of the first, then of the second; 13; 5; else how many lines.

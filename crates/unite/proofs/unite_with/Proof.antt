@@ -11,7 +11,7 @@ use Rattle.kinds.specs.Answers.{Answer.given}
 use Rattle.request.specs.Judging.{roomJudged}
 use Rattle.kept.specs.Kept.{after}
 use Rattle.unite.specs.Adding.{isNew}
-use Rattle.unite.specs.Union.{united, unionJudged, sizeAnswer}
+use Rattle.unite.specs.Union.{united, unionJudged, unionShort, sizeAnswer}
 use Rattle.unite.proofs.Adding.{united-size, united-front}
 use Rattle.unite.proofs.unite_with.Statement.{statement}
 use Rattle.unite.proofs.unite_with.Tie as tie
@@ -51,7 +51,7 @@ same-length-2 : tie.Need-same-length-2
 same-length-2 c = search needs
 
 returns-2 : tie.Need-returns-2
-unfolding sizeAnswer unionJudged roomJudged after
+unfolding sizeAnswer unionJudged unionShort roomJudged after
 returns-2 c =
     let a = c .before .before .before .before .before .before .before .before .before .before .before .before .args in
     let remembered = c .before .before .before .before .before .before .remember-lines in
@@ -74,7 +74,7 @@ same-length-4 : tie.Need-same-length-4
 same-length-4 c = search needs
 
 returns-3 : tie.Need-returns-3
-unfolding sizeAnswer unionJudged roomJudged after
+unfolding sizeAnswer unionJudged unionShort roomJudged after
 returns-3 c =
     let a = c .before .before .before .before .before .before .before .before .before .before .before .before .before .before .before .before .before .before .before .before .before .args in
     let pre = c .before .before .before .before .before .before .before .before .before .before .before .before .before .before .before .before .before .before .before .before .before .pre in
