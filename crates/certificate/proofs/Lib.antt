@@ -1,0 +1,13 @@
+pub mod Rounds
+pub mod Colours
+pub mod Cut
+pub mod Decidable
+pub mod KeptJoined
+pub mod Kept
+pub mod Few
+pub mod AlikeLaws
+pub mod Pruned
+pub mod Answers
+pub mod Demand3
+pub mod Seven
+pub mod Counterexample

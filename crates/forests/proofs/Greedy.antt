@@ -45,7 +45,7 @@ module _ (n : ℕ) (lines ranks : List ℕ) (i : ℕ) (order : List ℕ) where
   Up = Arrow (network n lines) (OfRank ranks i) t
 
   pub ranked-playing : {u v : ℕ} → Ranked u v → Playing u v
-  ranked-playing r = hop-map (rank-in-play ranks i) r
+  ranked-playing r = hop-map (λ p _. rank-in-play ranks i p) r
 
   module _ (S : Simple (network n lines)) (O : EachOnce n order) where
     playing-beside : (u v : ℕ) → Playing u v → Beside n lines ranks i order (t u) (t v)
@@ -135,7 +135,7 @@ module _ (n : ℕ) (lines ranks : List ℕ) (i : ℕ) (order : List ℕ) where
       below-kept p v u l k j less x y r b = go (apart x y r) (below-last b)
         where
           ranked : Ranked x y
-          ranked = hop-map (λ q (h : OfRank ranks i q × (q ≢ p)). h .0) r
+          ranked = hop-map (λ q _ (h : OfRank ranks i q × (q ≢ p)). h .0) r
 
           not-up : Hop (network n lines) (λ q. OfRank ranks i q × (q ≢ p)) v y → t y < t v → ⊥
           not-up (by q m h d) e =

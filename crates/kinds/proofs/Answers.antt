@@ -1,7 +1,7 @@
 -- The laws of tries made in order.
 -- Assumes nothing.
 use Prim.Native.Nat.{ℕ}
-use mathlib.Core.Path.{_≡_, refl, sym}
+use mathlib.Core.Path.{_≡_, refl, sym, ap}
 use mathlib.Core.Bool.{Bool, true, false, true≢false}
 use Rattle.kinds.specs.Answers.{Answer, Answer.given, Answer.refused, taken, refuseIf, _andThen_, isRefused}
 
@@ -29,3 +29,8 @@ taken-is (refused number place list) e = absurd (true≢false e)
 pub passed : (b : Bool) (number place list : ℕ) → isRefused (refuseIf b number place list) ≡ false → b ≡ false
 passed true number place list e = absurd (true≢false e)
 passed false number place list e = refl
+
+-- Where tries in order give a value, the first was taken and the others give it.
+pub then-given : {A : Type 0} {value : A} (a : Answer (Unit {0})) (b : Answer A) → a andThen b ≡ given value → (a ≡ taken) × (b ≡ given value)
+then-given (given x) b e = (refl, e)
+then-given (refused number place list) b e = absurd (true≢false (ap isRefused e))

@@ -2,3 +2,4 @@ pub mod Fold
 pub mod Count
 pub mod Decide
 pub mod Lists
+pub mod Injections

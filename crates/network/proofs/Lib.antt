@@ -3,3 +3,4 @@ pub mod Ends
 pub mod Judging
 pub mod Sound
 pub mod Chains
+pub mod Longer

@@ -34,11 +34,11 @@ module _ (n : ℕ) (lines : List ℕ) where
   same-joins q a b (forth x y) = ends-same a b (endOne lines q) (endTwo lines q) (inl (sym x, sym y))
   same-joins q a b (back x y) = ends-same a b (endOne lines q) (endTwo lines q) (inr (sym y, sym x))
 
-  not-stood : (p a b : ℕ) → stoodBefore lines p a b ≡ false → (q : ℕ) → q < p → ¬ Joins (network n lines) q a b
+  pub not-stood : (p a b : ℕ) → stoodBefore lines p a b ≡ false → (q : ℕ) → q < p → ¬ Joins (network n lines) q a b
   not-stood p a b e q h j =
       true≢false (sym (same-joins q a b j) ∙ first-all (λ x. x) (λ q. sameEnds a b (endOne lines q) (endTwo lines q)) false p e q h)
 
-  stood-not : (p a b : ℕ) → ((q : ℕ) → q < p → ¬ Joins (network n lines) q a b) → stoodBefore lines p a b ≡ false
+  pub stood-not : (p a b : ℕ) → ((q : ℕ) → q < p → ¬ Joins (network n lines) q a b) → stoodBefore lines p a b ≡ false
   stood-not p a b h = first-last (λ x. x) (λ q. sameEnds a b (endOne lines q) (endTwo lines q)) false p (λ q l. go q l (sameEnds a b (endOne lines q) (endTwo lines q)) refl)
     where
       go : (q : ℕ) → q < p → (x : Bool) → sameEnds a b (endOne lines q) (endTwo lines q) ≡ x → sameEnds a b (endOne lines q) (endTwo lines q) ≡ false

@@ -1,5 +1,5 @@
 -- How the judge remembers which pairs of stations have a line: a set of pairs, by the pair's number.
--- Only the judge's own helpers speak of it. Assumes nothing.
+-- Only helpers, of the judge and of the union, speak of it. Assumes nothing.
 use Prim.Native.Nat.{ℕ, _+_, _-_, _*_, _/_, _<_}
 use mathlib.Core.Path.{_≡_}
 use mathlib.Core.Logic.{_≢_}

@@ -108,7 +108,7 @@ fn pair_at(low: Station, high: Station) -> usize
 }
 
 // The number of the pair that a line joins, the same either way round.
-fn pair_number(line: Line) -> usize
+pub fn pair_number(line: Line) -> usize
     requires { ⌜ (line .one .0 < 1024) × (line .two .0 < 1024) × (line .one .0 ≢ line .two .0) ⌝ }
     ensures number { λ r. ⌜ r ≡ pairNumber (line .one .0) (line .two .0) ⌝ }
 {

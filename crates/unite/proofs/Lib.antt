@@ -1,0 +1,4 @@
+pub mod Neighbours
+pub mod Judging
+pub mod Adding
+pub mod Determined

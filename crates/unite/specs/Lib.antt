@@ -1,1 +1,3 @@
 pub mod Union
+pub mod Answers
+pub mod Adding

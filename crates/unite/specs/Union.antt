@@ -1,6 +1,7 @@
 -- The union of two lists: the first list, then those lines of the second that the first lacks, in order and as written there.
 -- Assumes nothing.
 use Prim.Native.Nat.{ℕ, _/_}
+use mathlib.Core.Bool.{Bool}
 use mathlib.Core.List.{List, [], _∷_, _++_}
 use lib.ListN.{length}
 use lib.Dec.{ltb}
@@ -18,18 +19,30 @@ addLine first second p union =
 unfoldable pub united : List ℕ → List ℕ → List ℕ
 united first second = upTo (addLine first second) first (length second / 2)
 
--- 13: the union has over 8,192 lines.
-unfoldable pub unionJudged : List ℕ → List ℕ → Answer (Unit {0})
-unionJudged first second = refuseIf (ltb 16384 (length (united first second))) 13 0 0
-
--- What uniting answers, given the room for numbers: 1; 2 for each list; lines of the first, then of the second; 13; 5; else how many lines.
-unfoldable pub unionAnswer : ℕ → List ℕ → List ℕ → ℕ → Answer ℕ
-unionAnswer n first second room =
+-- The two lists: 1; 2 for each list; lines of the first, then of the second.
+unfoldable pub listsJudged : ℕ → List ℕ → List ℕ → Answer (Unit {0})
+listsJudged n first second =
     stationsJudged n
     andThen lengthJudged 1 first
     andThen lengthJudged 2 second
     andThen linesJudged 1 n first
     andThen linesJudged 2 n second
-    andThen unionJudged first second
-    andThen roomJudged (ltb room (length (united first second)))
+
+-- 13: the union has over 8,192 lines.
+unfoldable pub unionJudged : List ℕ → List ℕ → Answer (Unit {0})
+unionJudged first second = refuseIf (ltb 16384 (length (united first second))) 13 0 0
+
+-- Whether the room for numbers is too short for the union.
+unfoldable pub unionShort : List ℕ → List ℕ → ℕ → Bool
+unionShort first second room = ltb room (length (united first second))
+
+-- What uniting answers where the lists are not refused, given the room for numbers: 13; 5; else how many lines.
+unfoldable pub sizeAnswer : List ℕ → List ℕ → ℕ → Answer ℕ
+sizeAnswer first second room =
+    unionJudged first second
+    andThen roomJudged (unionShort first second room)
     andThen given (length (united first second) / 2)
+
+-- What uniting answers: 1; 2 for each list; lines of the first, then of the second; 13; 5; else how many lines.
+unfoldable pub unionAnswer : ℕ → List ℕ → List ℕ → ℕ → Answer ℕ
+unionAnswer n first second room = listsJudged n first second andThen sizeAnswer first second room
