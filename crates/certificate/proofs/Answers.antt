@@ -1,49 +1,36 @@
 -- What is known where the check, or pruning, gives an answer: the list is sound, and there is room or every start is a station.
 -- Assumes nothing.
+
+-- What the check was given is in order, and this is what it says of it.
 use Prim.Native.Nat.{ℕ, _*_, _≤_}
-use mathlib.Core.Path.{_≡_, ap, _∙_}
+use mathlib.Core.Path.{_≡_, ap}
 use mathlib.Core.List.{List}
 use lib.ListN.{length}
-use Rattle.kinds.specs.Answers.{Answer.given, _andThen_, isRefused}
-use Rattle.kinds.proofs.Answers.{then-given, passed}
-use Rattle.network.specs.Lines.{Within}
+use Rattle.kinds.specs.Answers.{Answer.given, isRefused}
+use Rattle.kinds.proofs.Answers.{then-given}
 use Rattle.network.specs.Faults.{Sound}
-use Rattle.network.specs.Judging.{stationsJudged, lengthJudged, linesJudged}
-use Rattle.network.proofs.Judging.{stations-good, length-good}
-use Rattle.network.proofs.Sound.{lines-only, taken-sound}
-use Rattle.request.specs.Judging.{levelJudged, roomJudged, planShort, requestJudged}
+use Rattle.request.specs.Judging.{planShort, requestJudged}
 use Rattle.request.specs.Requests.{Request}
 use Rattle.request.proofs.Judging.{request-good}
 use Rattle.request.proofs.Room.{room-enough}
 use Rattle.forests.specs.Verdicts.{Verdict}
-use Rattle.forests.specs.Checking.{planVerdict, checkAnswer}
+use Rattle.forests.specs.Checking.{planVerdict, planJudged, checkAnswer}
+use Rattle.forests.proofs.Judging.{plan-good}
 use Rattle.kept.specs.Kept.{keptCount}
 use Rattle.prune.specs.Pruning.{pruned, pruneAnswer}
 
--- What the check was given is in order, and this is what it says of it.
 pub record Checked (n k : ℕ) (lines ranks orders : List ℕ) (verdict : Verdict) : Type 0 where
   pub sound : Sound n lines
   pub room : k * n ≤ length orders
   pub says : planVerdict n k lines ranks orders ≡ verdict
 
 pub check-given : (n k : ℕ) (lines ranks orders : List ℕ) {verdict : Verdict} → checkAnswer n k lines ranks orders ≡ given verdict → Checked n k lines ranks orders verdict
-unfolding checkAnswer roomJudged
+unfolding checkAnswer
 check-given n k lines ranks orders {verdict} e =
     let short = planShort n k lines (length ranks) (length orders) in
-    let last = linesJudged 0 n lines andThen given (planVerdict n k lines ranks orders) in
-    let (s, e₁) = then-given (stationsJudged n) (lengthJudged 0 lines andThen levelJudged k andThen roomJudged short andThen last) e in
-    let (l, e₂) = then-given (lengthJudged 0 lines) (levelJudged k andThen roomJudged short andThen last) e₁ in
-    let (v, e₃) = then-given (levelJudged k) (roomJudged short andThen last) e₂ in
-    let (r, e₄) = then-given (roomJudged short) last e₃ in
-    let (t, e₅) = then-given (linesJudged 0 n lines) (given (planVerdict n k lines ranks orders)) e₄ in
-    let (some, most) = stations-good n (ap isRefused s) in
-    let (even, few) = length-good 0 lines (ap isRefused l) in
-    let within : Within n lines = record { some = some; most = most; even = even; few = few } in
-    record {
-      sound = taken-sound 0 n lines (lines-only 0 n lines within ∙ t);
-      room = room-enough n k lines (length ranks) (length orders) (passed short 5 0 0 (ap isRefused r)) .1;
-      says = cc;
-    }
+    let (j, f) = then-given (planJudged n k lines short) (given (planVerdict n k lines ranks orders)) e in
+    let g = plan-good n k lines short (ap isRefused j) in
+    record { sound = g .sound; room = room-enough n k lines (length ranks) (length orders) (g .room) .1; says = cc }
 
 -- What pruning was given is in order.
 pub prune-given : (n k : ℕ) (lines starts : List ℕ) (ranks orders : ℕ) {count : ℕ} → pruneAnswer n k lines starts ranks orders ≡ given count

@@ -1,0 +1,75 @@
+-- Whether a network stands at a level, and its weak spot otherwise, over the whole list.
+-- Assumes nothing.
+use Prim.Native.Nat.{ℕ, _+_, _-_}
+use mathlib.Core.Bool.{Bool, true, false, not, _&&_, _||_}
+use mathlib.Core.List.{List, [], _∷_}
+use lib.Dec.{ltb, leb}
+use Rattle.laws.specs.Fold.{pick, firstFrom, lowest}
+use Rattle.kinds.specs.Answers.{Answer, Answer.given, refuseIf, _andThen_}
+use Rattle.network.specs.Judging.{stationsJudged, lengthJudged, linesJudged}
+use Rattle.joined.specs.Pieces.{isAway, onePiece}
+
+infixr 30 _orElse_
+-- The network stands, or a weak spot parts station a from station b.
+pub data Standing : Type 0 where
+  stands : Standing
+  weak : (spot : List ℕ) (a b : ℕ) → Standing
+
+abbrev pub isWeak : Standing → Bool
+isWeak stands = false
+isWeak (weak spot a b) = true
+
+-- The first try's weak spot, or what the tries after it say.
+abbrev pub _orElse_ : Standing → Standing → Standing
+_orElse_ stands next = next
+_orElse_ (weak spot a b) next = weak spot a b
+
+-- The lowest remaining station; n where none remains.
+unfoldable pub lowestRemaining : ℕ → (ℕ → Bool) → ℕ
+lowestRemaining n away = lowest (λ v. not (away v)) n n
+
+-- The lowest remaining station that is not joined to a; n where there is none.
+unfoldable pub lowestApart : ℕ → List ℕ → (ℕ → Bool) → ℕ → ℕ
+lowestApart n lines away a = lowest (λ v. not (away v) && not (onePiece n lines away a v)) n n
+
+-- A set of stations is taken away: it is weak if the lowest remaining station has one that is not joined to it.
+unfoldable pub without : ℕ → List ℕ → List ℕ → Standing
+without n lines spot =
+    let a = lowestRemaining n (isAway spot) in
+    let b = lowestApart n lines (isAway spot) a in
+    pick (ltb b n) (weak spot a b) stands
+
+-- One station is taken away, the smallest number first.
+unfoldable pub withoutOnes : ℕ → List ℕ → Standing
+withoutOnes n lines = firstFrom isWeak (λ v. without n lines (v ∷ [])) stands 0 n
+
+-- Station v and a higher one are taken away, the smallest second number first.
+unfoldable pub withoutSeconds : ℕ → List ℕ → ℕ → Standing
+withoutSeconds n lines v = firstFrom isWeak (λ w. without n lines (v ∷ (w ∷ []))) stands (v + 1) (n - (v + 1))
+
+-- Two stations are taken away, the smallest first number first.
+unfoldable pub withoutTwos : ℕ → List ℕ → Standing
+withoutTwos n lines = firstFrom isWeak (withoutSeconds n lines) stands 0 n
+
+-- Fewer than k stations, fewest first.
+unfoldable pub weakSpot : ℕ → ℕ → List ℕ → Standing
+weakSpot n k lines =
+    without n lines []
+    orElse pick (leb 2 k) (withoutOnes n lines) stands
+    orElse pick (leb 3 k) (withoutTwos n lines) stands
+
+-- 12: the weak-spot level is not 1 to 3.
+unfoldable pub weakLevelJudged : ℕ → Answer (Unit {0})
+weakLevelJudged k = refuseIf (ltb k 1 || ltb 3 k) 12 0 0
+
+-- The refusals: 1, 2, 12, lines.
+unfoldable pub weakJudged : ℕ → ℕ → List ℕ → Answer (Unit {0})
+weakJudged n k lines =
+    stationsJudged n
+    andThen lengthJudged 0 lines
+    andThen weakLevelJudged k
+    andThen linesJudged 0 n lines
+
+-- What the search for a weak spot answers.
+unfoldable pub weakAnswer : ℕ → ℕ → List ℕ → Answer Standing
+weakAnswer n k lines = weakJudged n k lines andThen given (weakSpot n k lines)
