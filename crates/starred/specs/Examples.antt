@@ -2,10 +2,17 @@
 -- Assumes nothing.
 use Prim.Native.Nat.{ℕ}
 use mathlib.Core.Path.{_≡_}
+use mathlib.Core.Bool.{true, false}
 use mathlib.Core.List.{List, [], _∷_}
 use Rattle.kinds.specs.Answers.{Answer, Answer.given, Answer.refused}
 use Rattle.network.specs.Judging.{listJudged}
+use Rattle.kept.specs.Kept.{keptLines}
 use Rattle.prune.specs.Pruning.{rounds, pruned, pruneAnswer}
+use Rattle.forests.specs.Verdicts.{Kind.C, Kind.D, Kind.E, Verdict.accepted, Verdict.faulty}
+use Rattle.forests.specs.Checking.{planVerdict, checkAnswer}
+use Rattle.joined.specs.Asking.{joinedAnswer}
+use Rattle.unite.specs.Union.{united, unionAnswer}
+use Rattle.weakness.specs.Standing.{Standing.stands, Standing.weak, weakAnswer}
 
 infix 10 _is_
 -- One example: two values of one type.
@@ -32,6 +39,9 @@ ring = 0 ∷ 1 ∷ 1 ∷ 2 ∷ 2 ∷ 3 ∷ 0 ∷ 3 ∷ []
 abbrev seven : List ℕ
 seven = 0 ∷ 1 ∷ 0 ∷ 2 ∷ 1 ∷ 2 ∷ 1 ∷ 3 ∷ 0 ∷ 3 ∷ 0 ∷ 4 ∷ 2 ∷ 4 ∷ 1 ∷ 5 ∷ 3 ∷ 5 ∷ 2 ∷ 6 ∷ 4 ∷ 6 ∷ []
 
+abbrev sevenRanks : List ℕ
+sevenRanks = 1 ∷ 1 ∷ 0 ∷ 2 ∷ 2 ∷ 2 ∷ 2 ∷ 1 ∷ 1 ∷ 1 ∷ 1 ∷ []
+
 abbrev pub starred : List Example
 starred =
     -- Q, k 2, starts 0, 0: ranks 1 1 1 2 2 0, both orders 0 1 2 3
@@ -44,6 +54,26 @@ starred =
     (pruneAnswer 1 1 [] (0 ∷ []) 0 1 is given 0) ∷
     -- two stations, lines 01 and 10: refused 8 at place 1
     (listJudged 0 2 (0 ∷ 1 ∷ 1 ∷ 0 ∷ []) is refused 8 1 0) ∷
-    -- the seven stations, starts 0, 0: ranks 1 1 2 2 1 1 2 1 2 1 2
+    -- lines 02, 12 over three stations, k 1, order 0 1 2: ranks 1 0 are fault E at line 1; ranks 1 1 are fault D at station 2
+    (checkAnswer 3 1 (0 ∷ 2 ∷ 1 ∷ 2 ∷ []) (1 ∷ 0 ∷ []) (0 ∷ 1 ∷ 2 ∷ []) is given (faulty 1 E 1)) ∷
+    (checkAnswer 3 1 (0 ∷ 2 ∷ 1 ∷ 2 ∷ []) (1 ∷ 1 ∷ []) (0 ∷ 1 ∷ 2 ∷ []) is given (faulty 1 D 2)) ∷
+    -- the seven stations, k 2, both orders rising: fault C, round 1, station 3; without station 0 the kept lines part 1 from 2, the whole list does not
+    (checkAnswer 7 2 seven sevenRanks (0 ∷ 1 ∷ 2 ∷ 3 ∷ 4 ∷ 5 ∷ 6 ∷ 0 ∷ 1 ∷ 2 ∷ 3 ∷ 4 ∷ 5 ∷ 6 ∷ []) is given (faulty 1 C 3)) ∷
+    (joinedAnswer 7 (keptLines seven sevenRanks) (0 ∷ []) 1 2 is given false) ∷
+    (joinedAnswer 7 seven (0 ∷ []) 1 2 is given true) ∷
+    -- the seven stations, starts 0, 0: ranks 1 1 2 2 1 1 2 1 2 1 2; the check accepts them
     (pruned 7 2 seven (0 ∷ 0 ∷ []) .ranks is (1 ∷ 1 ∷ 2 ∷ 2 ∷ 1 ∷ 1 ∷ 2 ∷ 1 ∷ 2 ∷ 1 ∷ 2 ∷ [])) ∷
+    (planVerdict 7 2 seven (pruned 7 2 seven (0 ∷ 0 ∷ []) .ranks) (pruned 7 2 seven (0 ∷ 0 ∷ []) .orders) is accepted) ∷
+    -- star 01, 02, 03: stands at 1; at 2 weak spot {0}, stations 1 and 2
+    (weakAnswer 4 1 (0 ∷ 1 ∷ 0 ∷ 2 ∷ 0 ∷ 3 ∷ []) is given stands) ∷
+    (weakAnswer 4 2 (0 ∷ 1 ∷ 0 ∷ 2 ∷ 0 ∷ 3 ∷ []) is given (weak (0 ∷ []) 1 2)) ∷
+    -- ring at 3: weak spot {0, 2}, stations 1 and 3
+    (weakAnswer 4 3 ring is given (weak (0 ∷ 2 ∷ []) 1 3)) ∷
+    -- two stations, no line, level 1: weak spot of no stations, 0 and 1
+    (weakAnswer 2 1 [] is given (weak [] 0 1)) ∷
+    -- triangle 01, 12, 02 at 3: stands
+    (weakAnswer 3 3 (0 ∷ 1 ∷ 1 ∷ 2 ∷ 0 ∷ 2 ∷ []) is given stands) ∷
+    -- union of 01, 12 and 21, 02: 01, 12, 02
+    (united (0 ∷ 1 ∷ 1 ∷ 2 ∷ []) (2 ∷ 1 ∷ 0 ∷ 2 ∷ []) is (0 ∷ 1 ∷ 1 ∷ 2 ∷ 0 ∷ 2 ∷ [])) ∷
+    (unionAnswer 3 (0 ∷ 1 ∷ 1 ∷ 2 ∷ []) (2 ∷ 1 ∷ 0 ∷ 2 ∷ []) 6 is given 3) ∷
     []
