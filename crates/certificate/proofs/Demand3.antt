@@ -57,43 +57,40 @@ module _ (n k : ℕ) where
   pub pruned-alike : (lines starts : List ℕ) → Sound n lines → StartsIn n k starts → Alike n k lines (prunedLines n k lines starts)
   pruned-alike lines starts sound starts-in = kept-alike sound (pruned-meets n k lines starts sound starts-in)
 
-  module _ (a b s t r : List ℕ) where
-    -- what is kept of the two, united; and what is kept of that
+  module _ (a b s t : List ℕ) where
+    -- what is kept of the two, united
     abbrev pub keptUnion : List ℕ
     keptUnion = united (prunedLines n k a s) (prunedLines n k b t)
 
-    abbrev pub keptAgain : List ℕ
-    keptAgain = prunedLines n k keptUnion r
-
     -- a union of what is kept that is sound is as good as one within the limit
-    sound-union-alike : Sound n a → Sound n b → Sound n keptUnion → StartsIn n k s → StartsIn n k t → StartsIn n k r → Alike n k (united a b) keptAgain
-    sound-union-alike sa sb su s-in t-in r-in =
+    sound-union-alike : (r : List ℕ) → Sound n a → Sound n b → Sound n keptUnion → StartsIn n k s → StartsIn n k t → StartsIn n k r
+        → Alike n k (united a b) (prunedLines n k keptUnion r)
+    sound-union-alike r sa sb su s-in t-in r-in =
         let sa′ = kept-sound sa (pruned n k a s .ranks) in
         let sb′ = kept-sound sb (pruned n k b t .ranks) in
         alike-then (alike-united sa sb sa′ sb′ (pruned-alike a s sa s-in) (pruned-alike b t sb t-in)) (pruned-alike keptUnion r su r-in)
 
-    pub pruned-united-alike : Sound n a → Sound n b → length (united a b) ≤ 16384 → StartsIn n k s → StartsIn n k t → StartsIn n k r
-        → Alike n k (united a b) keptAgain
-    pruned-united-alike sa sb few = sound-union-alike sa sb (kept-united-sound sa sb few (pruned n k a s .ranks) (pruned n k b t .ranks))
+    pub pruned-united-alike : (r : List ℕ) → Sound n a → Sound n b → length (united a b) ≤ 16384 → StartsIn n k s → StartsIn n k t → StartsIn n k r
+        → Alike n k (united a b) (prunedLines n k keptUnion r)
+    pruned-united-alike r sa sb few = sound-union-alike r sa sb (kept-united-sound sa sb few (pruned n k a s .ranks) (pruned n k b t .ranks))
 
-    -- the same of the routines' own answers: where pruning gives an answer for each list and for the union of what is kept. The numbers are the
-    -- lengths of the buffers lent
-    pub answers-alike : (ranks₁ orders₁ ranks₂ orders₂ ranks₃ orders₃ : ℕ) {x y z : ℕ}
-        → pruneAnswer n k a s ranks₁ orders₁ ≡ given x → pruneAnswer n k b t ranks₂ orders₂ ≡ given y → pruneAnswer n k keptUnion r ranks₃ orders₃ ≡ given z
-        → Alike n k (united a b) keptAgain
-    answers-alike ranks₁ orders₁ ranks₂ orders₂ ranks₃ orders₃ e f g =
-        let one = prune-given n k a s ranks₁ orders₁ e in
-        let two = prune-given n k b t ranks₂ orders₂ f in
-        let three = prune-given n k keptUnion r ranks₃ orders₃ g in
-        sound-union-alike (one .sound) (two .sound) (three .sound) (one .starts-in) (two .starts-in) (three .starts-in)
+    -- The same of the routines' own answers. The numbers ranks₁ to orders₃ and room are the lengths of the buffers lent. Copying, by the
+    -- ranks that pruning left (Answers' `pruned-copied`), and uniting write just these lists where they are not refused: only pruning is asked.
+    module _ (ranks₁ orders₁ ranks₂ orders₂ : ℕ) {x y : ℕ} (first : pruneAnswer n k a s ranks₁ orders₁ ≡ given x) (second : pruneAnswer n k b t ranks₂ orders₂ ≡ given y) where
+      pub answers-alike : (r : List ℕ) (ranks₃ orders₃ : ℕ) {z : ℕ} → pruneAnswer n k keptUnion r ranks₃ orders₃ ≡ given z
+          → Alike n k (united a b) (prunedLines n k keptUnion r)
+      answers-alike r ranks₃ orders₃ third =
+          let one = prune-given n k a s ranks₁ orders₁ first in
+          let two = prune-given n k b t ranks₂ orders₂ second in
+          let three = prune-given n k keptUnion r ranks₃ orders₃ third in
+          sound-union-alike r (one .sound) (two .sound) (three .sound) (one .starts-in) (two .starts-in) (three .starts-in)
 
-    -- and uniting what is kept is not refused, if the two have a union within the line limit and there is room
-    pub kept-united-given : (ranks₁ orders₁ ranks₂ orders₂ room : ℕ) {x y : ℕ}
-        → pruneAnswer n k a s ranks₁ orders₁ ≡ given x → pruneAnswer n k b t ranks₂ orders₂ ≡ given y → length (united a b) ≤ 16384 → length keptUnion ≤ room
-        → unionAnswer n (prunedLines n k a s) (prunedLines n k b t) room ≡ given (length keptUnion / 2)
-    kept-united-given ranks₁ orders₁ ranks₂ orders₂ room e f few fits =
-        let one = prune-given n k a s ranks₁ orders₁ e in
-        let two = prune-given n k b t ranks₂ orders₂ f in
-        let union = kept-united-sound (one .sound) (two .sound) few (pruned n k a s .ranks) (pruned n k b t .ranks) in
-        unites-given n (prunedLines n k a s) (prunedLines n k b t) room
-        (record { one = kept-sound (one .sound) (pruned n k a s .ranks); two = kept-sound (two .sound) (pruned n k b t .ranks); few = union .within .few; fits = fits })
+      -- and uniting what is kept is not refused, if the two have a union within the line limit and there is room
+      pub kept-united-given : (room : ℕ) → length (united a b) ≤ 16384 → length keptUnion ≤ room
+          → unionAnswer n (prunedLines n k a s) (prunedLines n k b t) room ≡ given (length keptUnion / 2)
+      kept-united-given room few fits =
+          let one = prune-given n k a s ranks₁ orders₁ first in
+          let two = prune-given n k b t ranks₂ orders₂ second in
+          let union = kept-united-sound (one .sound) (two .sound) few (pruned n k a s .ranks) (pruned n k b t .ranks) in
+          unites-given n (prunedLines n k a s) (prunedLines n k b t) room
+          (record { one = kept-sound (one .sound) (pruned n k a s .ranks); two = kept-sound (two .sound) (pruned n k b t .ranks); few = union .within .few; fits = fits })

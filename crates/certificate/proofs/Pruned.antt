@@ -126,6 +126,7 @@ module _ (n k : ℕ) (lines starts : List ℕ) (sound : Sound n lines) (starts-i
             (first-good first (sound .simple .proper) (pruned-orders n k lines starts i l));
       }
 
-  -- THEOREM. What pruning gives, the check accepts.
+  -- THEOREM. What pruning gives, the check accepts. Demand 2: "The checker says yes exactly to those rounds and orders that meet the published
+  -- definition of such forests, ours among them."
   pub pruned-accepted : planVerdict n k lines (pruned n k lines starts .ranks) (pruned n k lines starts .orders) ≡ accepted
   pruned-accepted = meets-accepted n k lines (pruned n k lines starts .ranks) (pruned n k lines starts .orders) sound pruned-meets

@@ -1,18 +1,18 @@
--- The laws of copying: how many numbers are copied, and what two stores make of a buffer filled from the front.
+-- The laws of copying: how many numbers are copied, which ranks matter, and what two stores make of a buffer filled from the front.
 -- Assumes nothing.
 use Prim.Native.Nat.{ℕ, zero, suc, _+_, _*_, _/_, _≤_}
 use mathlib.Core.Path.{_≡_, refl}
 use mathlib.Core.Bool.{Bool, true, false}
 use mathlib.Core.List.{List, [], _∷_, _++_, append-assoc}
 use native.Mathlib.Omega.{arith}
-use lib.ListN.{length, set, take, drop, length-append}
+use lib.ListN.{length, set, take, drop, length-append, List·getD-append}
 use lib.Seq.{length-take-le, getD-take}
 use Rattle.laws.specs.Fold.{pick, upTo}
 use Rattle.laws.specs.Count.{bit, count}
 use Rattle.laws.proofs.Count.{total-same}
 use Rattle.laws.proofs.Lists.{store-next}
 use Rattle.network.specs.Lines.{endOne, endTwo}
-use Rattle.kept.specs.Kept.{isKept, keptCount, copyLine, keptOf}
+use Rattle.kept.specs.Kept.{isKept, keptCount, copyLine, keptLines, keptOf}
 
 -- Two numbers for each kept line.
 pub copy-size : (lines ranks : List ℕ) (p : ℕ) → length (upTo (copyLine lines ranks) [] p) ≡ 2 * count p (isKept ranks)
@@ -31,6 +31,16 @@ unfolding keptCount keptOf
 kept-of lines ranks h =
     rw (length-take-le (length lines / 2) ranks h)
     (total-same (length lines / 2) _ _ (λ p l. rw (getD-take (length lines / 2) ranks p 0 l)))
+
+-- Ranks past the last line's change nothing.
+copied-front : (lines ranks rest : List ℕ) (p : ℕ) → p ≤ length ranks → upTo (copyLine lines (ranks ++ rest)) [] p ≡ upTo (copyLine lines ranks) [] p
+unfolding upTo copyLine
+copied-front lines ranks rest zero h = refl
+copied-front lines ranks rest (suc p) h = rw (List·getD-append ranks rest 0 p h, copied-front lines ranks rest p (omega arith))
+
+pub kept-front : (lines ranks rest : List ℕ) → length lines / 2 ≤ length ranks → keptLines lines (ranks ++ rest) ≡ keptLines lines ranks
+unfolding keptLines
+kept-front lines ranks rest h = copied-front lines ranks rest (length lines / 2) h
 
 -- A kept line's two ends, stored after what was copied.
 pub store-two : (front before : List ℕ) (at a b : ℕ) → length front ≡ at → at + 2 ≤ length before

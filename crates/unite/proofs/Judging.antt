@@ -2,13 +2,13 @@
 -- Assumes nothing.
 use Prim.Native.Nat.{ℕ, _/_, _≤_}
 use mathlib.Core.Path.{_≡_, sym, ap, _∙_}
-use mathlib.Core.Bool.{false}
+use mathlib.Core.Bool.{Bool, false}
 use mathlib.Core.List.{List}
 use native.Mathlib.Omega.{arith}
 use borrow.Author.Tests.{ltb-false, le-ltb}
 use lib.Dec.{ltb}
 use lib.ListN.{length}
-use Rattle.kinds.specs.Answers.{Answer.given, taken, _andThen_, isRefused}
+use Rattle.kinds.specs.Answers.{Answer, Answer.given, taken, _andThen_, isRefused}
 use Rattle.kinds.proofs.Answers.{then-both, taken-is, passed, then-given}
 use Rattle.network.specs.Faults.{Sound}
 use Rattle.network.specs.Judging.{stationsJudged, lengthJudged, linesJudged, listJudged}
@@ -23,6 +23,10 @@ pub record Unites (n : ℕ) (first second : List ℕ) (room : ℕ) : Type 0 wher
   pub two : Sound n second
   pub few : length (united first second) ≤ 16384
   pub fits : length (united first second) ≤ room
+
+-- What the code's test of a judge says of the judge's answer.
+pub judge-said : {word answer : Answer (Unit {0})} {said b : Bool} → word ≡ answer → said ≡ isRefused word → said ≡ b → isRefused answer ≡ b
+judge-said e i h = sym (ap isRefused e) ∙ (sym i ∙ h)
 
 -- Once n and a list's length are right, judging the list is judging its lines.
 pub sized-list : (list n : ℕ) (lines : List ℕ) → isRefused (stationsJudged n) ≡ false → isRefused (lengthJudged list lines) ≡ false
