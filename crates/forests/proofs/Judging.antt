@@ -1,6 +1,5 @@
 -- What a plan that is not refused is: its list is sound, its level is 1 to 16, and there is an entry for each station of each round.
 -- Assumes nothing.
-
 use Prim.Native.Nat.{ℕ, _≤_}
 use mathlib.Core.Path.{_≡_, _∙_}
 use mathlib.Core.Bool.{Bool, false}

@@ -1,7 +1,5 @@
 -- What the table of positions tells: whether an entry stood before, and the table with one entry more.
 -- Assumes nothing.
-
--- The search for the lowest number, with one number more that passes, or that does not.
 use Prim.Native.Nat.{ℕ, _+_, _<_, _≤_}
 use mathlib.Core.Path.{_≡_, sym, _∙_}
 use mathlib.Core.Bool.{Bool, true, false}
@@ -17,6 +15,7 @@ use Rattle.laws.specs.Fold.{anyFrom, lowest}
 use Rattle.laws.proofs.Fold.{FoundAt, FoundNone, first-cases, first-last, first-at, some-any}
 use Rattle.forests.specs.Tables.{Placed}
 
+-- The search for the lowest number, with one number more that passes, or that does not.
 pub lowest-new : (test : ℕ → Bool) (k last : ℕ) → ((j : ℕ) → j < k → test j ≡ false) → test k ≡ true → lowest test (k + 1) last ≡ k
 lowest-new test k last none here = first-at test (λ j. j) last (k + 1) k (omega arith) here none
 

@@ -1,8 +1,5 @@
 -- THEOREMS. The check accepts just the plans that meet the published definition, and of any other it says the first fault.
 -- Assumes nothing.
-
--- ── a round ──
-
 use Prim.Native.Nat.{ℕ, _+_, _*_, _/_, _<_, _≤_}
 use mathlib.Core.Path.{_≡_, sym, ap, _∙_}
 use mathlib.Core.Bool.{true≢false}
@@ -22,6 +19,8 @@ use Rattle.forests.proofs.Orders.{order-size}
 use Rattle.forests.proofs.Greedy.{good-meets, meets-good}
 use Rattle.forests.proofs.Faults.{rank-accepted, rank-faulty}
 use Rattle.forests.proofs.Rounds.{all-or-first, RoundCases, round-cases, good-accepted, round-faulty}
+
+-- ── a round ──
 
 module _ (n : ℕ) (lines ranks : List ℕ) (i : ℕ) (order : List ℕ) (s : Sound n lines) where
   abbrev AnyFault : Type 0

@@ -1,7 +1,5 @@
 -- What the check says of a round: accepted where it is without a fault, and else its first fault.
 -- Assumes nothing.
-
--- Of things that are each good or at fault: all below m are good, or there is a first one at fault.
 use Prim.Native.Nat.{ℕ, zero, suc, _/_, _<_, _≤_}
 use mathlib.Core.Path.{_≡_, refl, sym, ap, _∙_}
 use mathlib.Core.Bool.{Bool, true, false, true≢false}
@@ -23,6 +21,7 @@ use Rattle.forests.proofs.Orders.{good-each-once, each-once-good}
 use Rattle.forests.proofs.Greedy.{RoundGood, ranked-playing}
 use Rattle.forests.proofs.Faults.{entry-accepted, entry-faulty, station-accepted, station-faulty, joined-or-not, line-accepted, line-faulty}
 
+-- Of things that are each good or at fault: all below m are good, or there is a first one at fault.
 pub all-or-first : (Good Fault : ℕ → Type 0) (m : ℕ) → ((j : ℕ) → j < m → Good j ⊎ Fault j)
     → ((j : ℕ) → j < m → Good j) ⊎ ((j : ℕ) × (j < m) × ((h : ℕ) → h < j → Good h) × Fault j)
 all-or-first Good Fault zero cases = inl (λ j l. absurd (omega arith))

@@ -1,8 +1,6 @@
 -- What the tables of a round tell after the first lines: the earliest earlier neighbour in play of each position, whether the line to it
 -- has the round's rank, and whether another line of that rank leads to an earlier station.
 -- Assumes nothing.
-
--- One of the first `count` lines passes the test, and joins the stations at positions j and h.
 use Prim.Native.Nat.{ℕ, _+_, _<_, _≤_}
 use mathlib.Core.Path.{_≡_, refl, sym, ap, _∙_}
 use mathlib.Core.Bool.{Bool, true, false, true≢false}
@@ -19,6 +17,7 @@ use Rattle.network.specs.Lines.{network, Joins}
 use Rattle.forests.specs.Checking.{inPlay, ofRank}
 use Rattle.forests.specs.Tables.{Seen, seen, Blank, seeFrom}
 
+-- One of the first `count` lines passes the test, and joins the stations at positions j and h.
 pub record Line (n : ℕ) (lines order : List ℕ) (test : ℕ → Bool) (count j h : ℕ) : Type 0 where
   pub place : ℕ
   pub below : place < count

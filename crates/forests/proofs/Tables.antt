@@ -1,7 +1,5 @@
 -- The tables of a round, when all lines are seen, say what the definitions say: so the verdicts by the tables are the document's.
 -- Assumes nothing.
-
--- Two tests that hold in the same cases are the same.
 use Prim.Native.Nat.{ℕ, zero, suc, _+_, _/_, _<_, _≤_}
 use mathlib.Core.Path.{_≡_, refl, sym, subst, _∙_}
 use mathlib.Core.Bool.{Bool, true, false, true≢false}
@@ -30,6 +28,7 @@ use Rattle.forests.proofs.Orders.{position-order, position-below, order
 use Rattle.forests.proofs.Seeing.{Line, Right, blank-right, right-out, right-from}
 use Rattle.forests.proofs.Trees.{tree-kept, tree-new}
 
+-- Two tests that hold in the same cases are the same.
 same-truth : (a b : Bool) → (a ≡ true → b ≡ true) → (b ≡ true → a ≡ true) → a ≡ b
 same-truth true true f g = refl
 same-truth true false f g = absurd (true≢false (sym (f refl)))

@@ -1,6 +1,5 @@
 -- Tries made in order: the first try's fault, or what the tries after it say.
 -- Assumes nothing.
-
 use mathlib.Core.Path.{_≡_, refl, sym}
 use mathlib.Core.Bool.{true, false, true≢false}
 use Rattle.forests.specs.Verdicts.{Verdict, Verdict.accepted, Verdict.faulty, _orElse_, isFaulty}

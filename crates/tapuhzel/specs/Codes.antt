@@ -2,6 +2,7 @@
 -- Assumes nothing.
 use Prim.Native.Nat.{ℕ}
 use Rattle.kinds.specs.Answers.{Answer, Answer.given, Answer.refused}
+use Rattle.forests.specs.Verdicts.{Kind, Kind.A, Kind.B, Kind.C, Kind.D, Kind.E, Verdict, Verdict.accepted, Verdict.faulty}
 
 abbrev pub numberSaid : {A : Type 0} → Answer A → ℕ
 numberSaid (given value) = 0
@@ -19,3 +20,27 @@ listSaid (refused number place list) = list
 abbrev pub countSaid : Answer ℕ → ℕ
 countSaid (given count) = count
 countSaid (refused number place list) = 0
+
+-- The kinds of a fault, 1 for A to 5 for E; 0 where there is none.
+abbrev pub letterNumber : Kind → ℕ
+letterNumber A = 1
+letterNumber B = 2
+letterNumber C = 3
+letterNumber D = 4
+letterNumber E = 5
+
+abbrev pub kindSaid : Answer Verdict → ℕ
+kindSaid (given accepted) = 0
+kindSaid (given (faulty round kind place)) = letterNumber kind
+kindSaid (refused number place list) = 0
+
+-- A fault's round and its own place, 0 where there is none.
+abbrev pub roundSaid : Answer Verdict → ℕ
+roundSaid (given accepted) = 0
+roundSaid (given (faulty round kind place)) = round
+roundSaid (refused number place list) = 0
+
+abbrev pub faultPlaceSaid : Answer Verdict → ℕ
+faultPlaceSaid (given accepted) = 0
+faultPlaceSaid (given (faulty round kind place)) = place
+faultPlaceSaid (refused number place list) = 0
