@@ -4,7 +4,7 @@
  * slices of one call do not overlap. A pointer to a result is not null and points at room of its own.
  *
  * Every routine returns the number of its answer: 0 where it is not refused, else the number of the refusal. A refused
- * call writes, of all that it was lent, only *place and *list:
+ * call writes, of all that it was lent, only its results, *place and *list among them:
  *   *place  the refusal's place: a line's place, a round, an index or an offset, else 0; 0 where it is not refused
  *   *list   which line list a refusal 2, 6, 7 or 8 of a union speaks of, 1 or 2; 3 for the records of a file; else 0
  */
@@ -24,5 +24,13 @@ uint8_t tapuhzel_judge(size_t n, const uint16_t *lines, size_t lines_len, size_t
 uint8_t tapuhzel_prune(size_t n, size_t level, const uint16_t *lines, size_t lines_len, const uint16_t *starts,
                        size_t starts_len, uint8_t *ranks, size_t ranks_len, uint16_t *orders, size_t orders_len,
                        size_t *kept, size_t *place, uint8_t *list);
+
+/* The check of forests: whether ranks (a byte for each line) and orders (level times n numbers) from anywhere meet the
+ * published definition. Where the call is not refused, *kind is 0 (accepted), or the first fault's kind, 1 for A to 5
+ * for E, with its round (0 for A) in *round and its own place in *at: the line's place (A, E), the position in the
+ * round (B) or the station (C, D). All three are 0 where the call is refused. Refusals 1, 2, 3, 5, then lines. */
+uint8_t tapuhzel_check(size_t n, size_t level, const uint16_t *lines, size_t lines_len, const uint8_t *ranks,
+                       size_t ranks_len, const uint16_t *orders, size_t orders_len, uint8_t *kind, uint8_t *round,
+                       size_t *at, size_t *place, uint8_t *list);
 
 #endif

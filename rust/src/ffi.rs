@@ -18,6 +18,22 @@ extern "C" {
         place: *mut usize,
         list: *mut u8,
     ) -> u8;
+    #[allow(clippy::too_many_arguments)]
+    fn tapuhzel_check(
+        n: usize,
+        level: usize,
+        lines: *const u16,
+        lines_len: usize,
+        ranks: *const u8,
+        ranks_len: usize,
+        orders: *const u16,
+        orders_len: usize,
+        kind: *mut u8,
+        round: *mut u8,
+        at: *mut usize,
+        place: *mut usize,
+        list: *mut u8,
+    ) -> u8;
 }
 
 /// A routine's number, place and list, as `include/tapuhzel.h` encodes them.
@@ -58,4 +74,36 @@ pub(crate) fn prune(n: usize, level: usize, lines: &[u16], starts: &[u16], ranks
         )
     };
     (kept, Said { number, place, list })
+}
+
+/// What the check found: the kind of its fault, 1 for A to 5 for E, 0 for none; its round; its own place.
+pub(crate) struct Found {
+    pub kind: u8,
+    pub round: u8,
+    pub at: usize,
+}
+
+pub(crate) fn check(n: usize, level: usize, lines: &[u16], ranks: &[u8], orders: &[u16]) -> (Found, Said) {
+    let mut found = Found { kind: 0, round: 0, at: 0 };
+    let mut place = 0;
+    let mut list = 0;
+    // SAFETY: each pointer and length are of one live slice that the call only reads; the five results are live and apart.
+    let number = unsafe {
+        tapuhzel_check(
+            n,
+            level,
+            lines.as_ptr(),
+            lines.len(),
+            ranks.as_ptr(),
+            ranks.len(),
+            orders.as_ptr(),
+            orders.len(),
+            &mut found.kind,
+            &mut found.round,
+            &mut found.at,
+            &mut place,
+            &mut list,
+        )
+    };
+    (found, Said { number, place, list })
 }

@@ -14,6 +14,43 @@ pub struct Place(pub u16);
 #[derive(Clone, Copy, Debug, PartialEq, Eq, PartialOrd, Ord)]
 pub struct Round(pub u8);
 
+/// The number of a station, 0 to n - 1.
+#[derive(Clone, Copy, Debug, PartialEq, Eq, PartialOrd, Ord)]
+pub struct Station(pub u16);
+
+/// A position in a round's order, counted from 0.
+#[derive(Clone, Copy, Debug, PartialEq, Eq, PartialOrd, Ord)]
+pub struct Position(pub u16);
+
+/// What is wrong with a plan: a kind of the document's table, with its own place.
+#[derive(Clone, Copy, Debug, PartialEq, Eq)]
+pub enum FaultKind {
+    /// A: a line's rank is above k.
+    RankAbove(Place),
+    /// B: the round's entries are not each station once.
+    NotEachOnce(Position),
+    /// C: a station's line to the earliest of its earlier neighbours in play lacks the round's rank.
+    ParentLacking(Station),
+    /// D: a station has a line of the round's rank to another earlier station.
+    OtherParent(Station),
+    /// E: a line in play has its ends in different trees.
+    TreesApart(Place),
+}
+
+/// A fault, in its round; A has round 0.
+#[derive(Clone, Copy, Debug, PartialEq, Eq)]
+pub struct Fault {
+    pub round: Round,
+    pub kind: FaultKind,
+}
+
+/// What the check of forests finds: nothing wrong, or the first fault.
+#[derive(Clone, Copy, Debug, PartialEq, Eq)]
+pub enum Verdict {
+    Accepted,
+    Faulty(Fault),
+}
+
 /// Why an input is refused, and where.
 #[derive(Clone, Copy, Debug, PartialEq, Eq)]
 pub enum Refusal {
@@ -105,4 +142,33 @@ pub fn judge(n: usize, lines: &[u16]) -> Result<(), Refusal> {
 pub fn prune(n: usize, level: usize, lines: &[u16], starts: &[u16], ranks: &mut [u8], orders: &mut [u16]) -> Result<usize, Refusal> {
     let (kept, said) = ffi::prune(n, level, lines, starts, ranks, orders);
     if said.number == 0 { Ok(kept) } else { Err(refusal(said)) }
+}
+
+/// The verdict of a kind's number, a round and a place.
+fn verdict(found: ffi::Found) -> Verdict {
+    let at = found.at as u16;
+    let kind = match found.kind {
+        0 => return Verdict::Accepted,
+        1 => FaultKind::RankAbove(Place(at)),
+        2 => FaultKind::NotEachOnce(Position(at)),
+        3 => FaultKind::ParentLacking(Station(at)),
+        4 => FaultKind::OtherParent(Station(at)),
+        5 => FaultKind::TreesApart(Place(at)),
+        number => unreachable!("no fault has the number {number}"),
+    };
+    Verdict::Faulty(Fault { round: Round(found.round), kind })
+}
+
+/// Whether ranks and orders from anywhere are scan-first forests of a network at a level, or what the first fault is.
+///
+/// ```
+/// use tapuhzel::{check, Fault, FaultKind, Place, Round, Verdict};
+/// let lines = [0, 2, 1, 2];
+/// assert_eq!(check(3, 1, &lines, &[1, 0], &[0, 2, 1]), Ok(Verdict::Faulty(Fault { round: Round(1), kind: FaultKind::ParentLacking(tapuhzel::Station(1)) })));
+/// assert_eq!(check(3, 1, &lines, &[1, 0], &[0, 1, 2]), Ok(Verdict::Faulty(Fault { round: Round(1), kind: FaultKind::TreesApart(Place(1)) })));
+/// assert_eq!(check(3, 1, &lines, &[1, 1], &[0, 2, 1]), Ok(Verdict::Accepted));
+/// ```
+pub fn check(n: usize, level: usize, lines: &[u16], ranks: &[u8], orders: &[u16]) -> Result<Verdict, Refusal> {
+    let (found, said) = ffi::check(n, level, lines, ranks, orders);
+    if said.number == 0 { Ok(verdict(found)) } else { Err(refusal(said)) }
 }

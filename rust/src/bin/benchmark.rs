@@ -28,6 +28,15 @@ fn main() {
             assert!(black_box(kept).is_ok());
         });
         row(&format!("prune {level}"), stations, lines, proved, ordinary);
+        let proved = median(|| {
+            let found = tapuhzel::check(stations, level, black_box(&network), &ranks, &orders);
+            assert_eq!(black_box(found), Ok(tapuhzel::Verdict::Accepted));
+        });
+        let ordinary = median(|| {
+            let found = second::check::check(stations, level, black_box(&network), &ranks, &orders);
+            assert!(black_box(found).is_ok());
+        });
+        row(&format!("check {level}"), stations, lines, proved, ordinary);
     }
 }
 

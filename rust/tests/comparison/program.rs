@@ -1,7 +1,7 @@
 //! The programs that are compared, and what each routine of one makes of a case.
 
 use crate::case::Case;
-use tapuhzel::second::kinds::{Contents, Refusal, Standing, Station, Verdict};
+use tapuhzel::second::kinds::{Contents, Fault, FaultKind, Place, Position, Refusal, Round, Standing, Station, Verdict};
 
 pub type Judge = fn(usize, &[u16]) -> Result<(), Refusal>;
 pub type Prune = fn(usize, usize, &[u16], &[u16], &mut [u8], &mut [u16]) -> Result<usize, Refusal>;
@@ -62,8 +62,24 @@ pub fn proved() -> Program {
         prune: Some(|n, level, lines, starts, ranks, orders| {
             tapuhzel::prune(n, level, lines, starts, ranks, orders).map_err(numbers)
         }),
+        check: Some(|n, level, lines, ranks, orders| tapuhzel::check(n, level, lines, ranks, orders).map(verdict).map_err(numbers)),
         ..Program::default()
     }
+}
+
+/// A verdict of the proved program, as the second program writes one.
+fn verdict(verdict: tapuhzel::Verdict) -> Verdict {
+    let tapuhzel::Verdict::Faulty(fault) = verdict else {
+        return Verdict::Accepted;
+    };
+    let kind = match fault.kind {
+        tapuhzel::FaultKind::RankAbove(place) => FaultKind::A(Place(place.0.into())),
+        tapuhzel::FaultKind::NotEachOnce(position) => FaultKind::B(Position(position.0.into())),
+        tapuhzel::FaultKind::ParentLacking(station) => FaultKind::C(Station(station.0)),
+        tapuhzel::FaultKind::OtherParent(station) => FaultKind::D(Station(station.0)),
+        tapuhzel::FaultKind::TreesApart(place) => FaultKind::E(Place(place.0.into())),
+    };
+    Verdict::Faulty(Fault { round: Round(fault.round.0), kind })
 }
 
 /// A refusal of the proved program by its numbers; no routine so far says a list.
