@@ -10,3 +10,4 @@ pub mod Judging
 pub mod Placing
 pub mod Seeing
 pub mod Tables
+pub mod Determined
