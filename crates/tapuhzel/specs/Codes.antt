@@ -1,6 +1,7 @@
 -- How an answer crosses to C: a number, 0 for what is not refused, and the refusal's place and list, 0 otherwise.
 -- Assumes nothing.
 use Prim.Native.Nat.{ℕ}
+use mathlib.Core.Bool.{Bool, true, false}
 use Rattle.kinds.specs.Answers.{Answer, Answer.given, Answer.refused}
 use Rattle.forests.specs.Verdicts.{Kind, Kind.A, Kind.B, Kind.C, Kind.D, Kind.E, Verdict, Verdict.accepted, Verdict.faulty}
 
@@ -20,6 +21,12 @@ listSaid (refused number place list) = list
 abbrev pub countSaid : Answer ℕ → ℕ
 countSaid (given count) = count
 countSaid (refused number place list) = 0
+
+-- 1 where two stations are joined, 0 where they are not or the question is refused.
+abbrev pub joinedSaid : Answer Bool → ℕ
+joinedSaid (given true) = 1
+joinedSaid (given false) = 0
+joinedSaid (refused number place list) = 0
 
 -- The kinds of a fault, 1 for A to 5 for E; 0 where there is none.
 abbrev pub letterNumber : Kind → ℕ

@@ -3,23 +3,29 @@ use forests::Checked;
 use forests::Fault;
 use forests::FaultKind;
 use forests::Verdict;
+use joined::Answered;
+use kept::Copied;
 use kinds::Judged;
 use kinds::Level;
 use kinds::Refusal;
+use kinds::Station;
 use kinds::list_of;
 use kinds::number_of;
 use kinds::place_of;
 use prune::Pruned;
+use unite::United;
 ghost use mathlib.Core.Path.{_≡_};
 ghost use lib.ListN.{length};
 ghost use Rattle.kinds.specs.Answers.{Answer, Answer.given, refusalAnswer, judgedAnswer};
 ghost use Rattle.kinds.specs.Refusals.{numberOf, placeOf, listOf};
 ghost use Rattle.network.specs.Judging.{listJudged};
-ghost use Rattle.kept.specs.Kept.{after};
+ghost use Rattle.joined.specs.Asking.{joinedAnswer};
+ghost use Rattle.kept.specs.Kept.{keptLines, copyAnswer, after};
+ghost use Rattle.unite.specs.Union.{united, unionAnswer};
 ghost use Rattle.prune.specs.Pruning.{pruned, pruneAnswer};
 ghost use Rattle.forests.specs.Answers.{kindOf, faultPlace, verdictSaid};
 ghost use Rattle.forests.specs.Checking.{checkAnswer};
-ghost use Rattle.tapuhzel.specs.Codes.{numberSaid, placeSaid, listSaid, countSaid, letterNumber, kindSaid, roundSaid, faultPlaceSaid};
+ghost use Rattle.tapuhzel.specs.Codes.{numberSaid, placeSaid, listSaid, countSaid, joinedSaid, letterNumber, kindSaid, roundSaid, faultPlaceSaid};
 
 // A refusal: its number returned, its place and its list written.
 fn say_refusal(refusal: Refusal, place: &mut usize, list: &mut u8) -> u8
@@ -179,6 +185,99 @@ pub extern "C" fn tapuhzel_check(
         }
         Checked::Refused(refusal) => {
             say_accepted(kind, round, at);
+            say_refusal(refusal, place, list)
+        }
+    }
+}
+
+// Copies the kept lines, those of nonzero rank, and says how many.
+#[no_mangle]
+pub extern "C" fn tapuhzel_copy(
+    lines: &[u16],
+    ranks: &[u8],
+    room: &mut [u16],
+    count: &mut usize,
+    place: &mut usize,
+    list: &mut u8,
+) -> u8
+    ensures number { λ r. ⌜ r ≡ numberSaid (copyAnswer (now (lines .entry)) (now (ranks .entry)) (length (now (room .entry)))) ⌝ }
+    ensures room { λ _. ⌜ now (room .exit) ≡ after (copyAnswer (now (lines .entry)) (now (ranks .entry)) (length (now (room .entry)))) (keptLines (now (lines .entry)) (now (ranks .entry))) (now (room .entry)) ⌝ }
+    ensures count { λ _. ⌜ now (count .exit) ≡ countSaid (copyAnswer (now (lines .entry)) (now (ranks .entry)) (length (now (room .entry)))) ⌝ }
+    ensures place { λ _. ⌜ now (place .exit) ≡ placeSaid (copyAnswer (now (lines .entry)) (now (ranks .entry)) (length (now (room .entry)))) ⌝ }
+    ensures list { λ _. ⌜ now (list .exit) ≡ listSaid (copyAnswer (now (lines .entry)) (now (ranks .entry)) (length (now (room .entry)))) ⌝ }
+{
+    let answer = kept::copy_kept(lines, ranks, room);
+    match answer {
+        Copied::Lines(lines) => {
+            *count = lines;
+            say_taken(place, list)
+        }
+        Copied::Refused(refusal) => {
+            *count = 0;
+            say_refusal(refusal, place, list)
+        }
+    }
+}
+
+// Unites two lists, and says how many lines the union has.
+#[no_mangle]
+pub extern "C" fn tapuhzel_unite(
+    n: usize,
+    first: &[u16],
+    second: &[u16],
+    room: &mut [u16],
+    count: &mut usize,
+    place: &mut usize,
+    list: &mut u8,
+) -> u8
+    ensures number { λ r. ⌜ r ≡ numberSaid (unionAnswer n (now (first .entry)) (now (second .entry)) (length (now (room .entry)))) ⌝ }
+    ensures room { λ _. ⌜ now (room .exit) ≡ after (unionAnswer n (now (first .entry)) (now (second .entry)) (length (now (room .entry)))) (united (now (first .entry)) (now (second .entry))) (now (room .entry)) ⌝ }
+    ensures count { λ _. ⌜ now (count .exit) ≡ countSaid (unionAnswer n (now (first .entry)) (now (second .entry)) (length (now (room .entry)))) ⌝ }
+    ensures place { λ _. ⌜ now (place .exit) ≡ placeSaid (unionAnswer n (now (first .entry)) (now (second .entry)) (length (now (room .entry)))) ⌝ }
+    ensures list { λ _. ⌜ now (list .exit) ≡ listSaid (unionAnswer n (now (first .entry)) (now (second .entry)) (length (now (room .entry)))) ⌝ }
+{
+    let answer = unite::unite(n, first, second, room);
+    match answer {
+        United::Lines(lines) => {
+            *count = lines;
+            say_taken(place, list)
+        }
+        United::Refused(refusal) => {
+            *count = 0;
+            say_refusal(refusal, place, list)
+        }
+    }
+}
+
+// Whether two stations are joined when others are taken away.
+#[no_mangle]
+pub extern "C" fn tapuhzel_joined(
+    n: usize,
+    lines: &[u16],
+    away: &[u16],
+    one: u16,
+    two: u16,
+    joined: &mut u8,
+    place: &mut usize,
+    list: &mut u8,
+) -> u8
+    ensures number { λ r. ⌜ r ≡ numberSaid (joinedAnswer n (now (lines .entry)) (now (away .entry)) one two) ⌝ }
+    ensures joined { λ _. ⌜ now (joined .exit) ≡ joinedSaid (joinedAnswer n (now (lines .entry)) (now (away .entry)) one two) ⌝ }
+    ensures place { λ _. ⌜ now (place .exit) ≡ placeSaid (joinedAnswer n (now (lines .entry)) (now (away .entry)) one two) ⌝ }
+    ensures list { λ _. ⌜ now (list .exit) ≡ listSaid (joinedAnswer n (now (lines .entry)) (now (away .entry)) one two) ⌝ }
+{
+    let answer = joined::joined(n, lines, away, Station(one), Station(two));
+    match answer {
+        Answered::Joined => {
+            *joined = 1;
+            say_taken(place, list)
+        }
+        Answered::Apart => {
+            *joined = 0;
+            say_taken(place, list)
+        }
+        Answered::Refused(refusal) => {
+            *joined = 0;
             say_refusal(refusal, place, list)
         }
     }

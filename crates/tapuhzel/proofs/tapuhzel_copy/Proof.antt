@@ -1,0 +1,65 @@
+-- `tapuhzel::tapuhzel_copy` meets its contract. In each arm the answer is that arm's constructor, and each number is the code of it.
+-- Assumes nothing.
+use Rattle.kept.specs.Kept.{copyAnswer}
+use Rattle.kinds.specs.Answers.{Answer.given, refusalAnswer}
+use lib.ListN.{length}
+use mathlib.Core.Path.{_≡_, sym, _∙_}
+use borrow.Author.Needs.{needs}
+use Rattle.tapuhzel.proofs.tapuhzel_copy.Statement.{statement}
+use Rattle.tapuhzel.proofs.tapuhzel_copy.Tie as tie
+use Rattle.tapuhzel.proofs.tapuhzel_copy.Reads as reads
+use Rattle.tapuhzel.proofs.tapuhzel_copy.Lts as lts
+use Rattle.kept.proofs.copy_kept.Reads as copy-kept-reads
+use Rattle.tapuhzel.proofs.say_refusal.Reads as say-refusal-reads
+use Rattle.tapuhzel.proofs.say_taken.Reads as say-taken-reads
+
+copy-kept-requires : tie.Need-copy-kept-requires
+copy-kept-requires c κs = search needs
+
+enum-known-answer : tie.Need-enum-known-answer
+enum-known-answer c = search needs
+
+say-taken-requires : tie.Need-say-taken-requires
+say-taken-requires c κs = search needs
+
+enum-known-answer-2 : tie.Need-enum-known-answer-2
+enum-known-answer-2 c = search needs
+
+say-refusal-requires : tie.Need-say-refusal-requires
+say-refusal-requires c κs = search needs
+
+same-length : tie.Need-same-length
+same-length c = search needs
+
+returns : tie.Need-returns
+returns c =
+    let a = c .before .before .before .before .before .before .before .before .before .before .before .before .before .args in
+    let d = c .before .before .before .before .before .before .before .before .copy-kept in
+    let said = c .say-taken .ensures in
+    let e : copyAnswer (a .lines .now) (a .ranks .now) (length (a .room .now)) ≡ given (c .before .before .before .before .answer .given .0 .0) = sym (d .ensures .0) ∙ rw (c .before .before .before .before .answer .given .1) in
+    (rw e (said .0), (rw (← (d .ensures .0)) (d .ensures .1), (rw e, (rw e (said .1), rw e (said .2)))))
+
+same-length-2 : tie.Need-same-length-2
+same-length-2 c = search needs
+
+returns-2 : tie.Need-returns-2
+returns-2 c =
+    let a = c .before .before .before .before .before .before .before .before .before .before .before .before .before .args in
+    let d = c .before .before .before .before .before .before .before .before .copy-kept in
+    let said = c .say-refusal .ensures in
+    let e : copyAnswer (a .lines .now) (a .ranks .now) (length (a .room .now)) ≡ refusalAnswer (c .before .before .before .before .answer2 .given .0 .0) = sym (d .ensures .0) ∙ rw (c .before .before .before .before .answer2 .given .1) in
+    (rw e (said .0), (rw (← (d .ensures .0)) (d .ensures .1), (rw e, (rw e (said .1 .0), rw e (said .1 .1)))))
+
+pub tapuhzel-copy-spec : {M : Type 1} → statement M
+tapuhzel-copy-spec =
+    tie.close
+    (tie.spec
+    copy-kept-requires
+    enum-known-answer
+    say-taken-requires
+    enum-known-answer-2
+    say-refusal-requires
+    same-length
+    returns
+    same-length-2
+    returns-2)
