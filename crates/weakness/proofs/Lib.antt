@@ -4,3 +4,4 @@ pub mod Remaining
 pub mod Agree
 pub mod Pruned
 pub mod Judging
+pub mod Tries
