@@ -5,3 +5,5 @@ pub mod Agree
 pub mod Pruned
 pub mod Judging
 pub mod Tries
+pub mod Whole
+pub mod Determined

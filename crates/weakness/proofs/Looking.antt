@@ -2,6 +2,7 @@
 -- Assumes nothing.
 
 -- Two searches whose tests agree on the same answers find the same.
+
 use Prim.Native.Nat.{ℕ, zero, suc, _+_, _<_, _≤_}
 use mathlib.Core.Path.{_≡_, refl, sym, _∙_}
 use mathlib.Core.Bool.{Bool, true, false, not, _&&_, _||_}

@@ -2,6 +2,7 @@
 -- Assumes nothing.
 
 -- Three orders of at most 1,024 stations have room in 3,072 places.
+
 use Prim.Native.Nat.{ℕ, _+_, _*_, _/_, _≤_}
 use mathlib.Core.Path.{_≡_, _∙_}
 use mathlib.Core.Bool.{false}

@@ -4,6 +4,7 @@
 -- ── the lowest remaining station ──
 
 -- Where a station remains, the lowest one does, and it is no higher.
+
 use Prim.Native.Nat.{ℕ, zero, suc, _+_, _<_, _≤_}
 use mathlib.Core.Path.{_≡_, refl, sym, _∙_}
 use mathlib.Core.Bool.{Bool, true, false, not, _||_, true≢false}

@@ -2,6 +2,7 @@
 -- Assumes nothing.
 
 -- A try that finds a weak spot is the answer.
+
 use mathlib.Core.Path.{_≡_, refl, sym}
 use mathlib.Core.Bool.{true, false, true≢false}
 use Rattle.weakness.specs.Standing.{Standing, Standing.stands, Standing.weak, isWeak, _orElse_}

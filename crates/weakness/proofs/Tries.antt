@@ -1,5 +1,8 @@
 -- The search's answer, by the sets that it tries: the first one that is weak, or that none is.
 -- Assumes nothing.
+
+-- ── sets of at most two stations ──
+
 use Prim.Native.Nat.{ℕ, zero, suc, _+_, _-_, _<_, _≤_}
 use mathlib.Core.Path.{_≡_, refl, sym, ap, _∙_}
 use mathlib.Core.Bool.{Bool, true, false, true≢false}
@@ -8,16 +11,12 @@ use mathlib.Core.Logic.{_⊎_, _⊎_.inl, _⊎_.inr}
 use native.Mathlib.Decide.{decLe}
 use native.Mathlib.Omega.{arith}
 use borrow.Author.Tests.{le-leb, lt-leb}
-use lib.Dec.{leb}
 use lib.ListN.{length, getD}
-use Rattle.laws.specs.Fold.{pick, firstFrom}
 use Rattle.laws.proofs.Fold.{FoundAt, FoundNone, first-cases}
 use Rattle.joined.specs.Rising.{Rising}
-use Rattle.weakness.specs.Standing.{Standing, Standing.stands, isWeak, _orElse_, without, withoutOnes, withoutSeconds, withoutTwos, weakSpot}
+use Rattle.weakness.specs.Standing.{Standing.stands, isWeak, without, withoutOnes, withoutSeconds, withoutTwos, weakSpot}
 use Rattle.weakness.specs.Parting.{Tried, Earlier, Earlier.fewer, Earlier.first, Earlier.second}
 use Rattle.weakness.proofs.Standing.{else-weak, else-next}
-
--- ── sets of at most two stations ──
 
 pub none-rising : (n : ℕ) → Rising n []
 none-rising n = record { below = λ j l. absurd (omega arith); above = λ j l. absurd (omega arith) }
