@@ -82,9 +82,9 @@ fn lowest_remaining(n: usize, gone: &[bool]) -> Station
     requires { ⌜ (n ≤ 1024) × (length (now gone) ≡ n) ⌝ }
     ensures lowest { λ r. ⌜ r .0 ≡ lowestRemaining n (isGone (now (gone .entry))) ⌝ }
 {
-    for v in 0..n {
-        if !gone[v] {
-            return Station(v as u16);
+    for a in 0..n {
+        if !gone[a] {
+            return Station(a as u16);
         }
     }
     Station(n as u16)
@@ -108,8 +108,8 @@ fn lowest_apart(n: usize, one: Station, gone: &[bool], pieces: &[u16]) -> Statio
     requires { ⌜ (n ≤ 1024) × (one .0 < n) × (length (now gone) ≡ n) × (length (now pieces) ≡ n) ⌝ }
     ensures lowest { λ r. ⌜ r .0 ≡ lowest (isApart (now (gone .entry)) (now (pieces .entry)) (one .0)) n n ⌝ }
 {
-    for v in 0..n {
-        let two = Station(v as u16);
+    for b in 0..n {
+        let two = Station(b as u16);
         if is_apart(one, two, gone, pieces) {
             return two;
         }
@@ -184,8 +184,8 @@ fn try_ones(n: usize, lines: &[u16], gone: &mut [bool], pieces: &mut [u16]) -> F
     ensures found { λ r. ⌜ foundStanding r ≡ withoutOnes n (now (lines .entry)) ⌝ }
     ensures gone { λ _. ⌜ Unmarked (now (gone .exit)) ⌝ }
 {
-    for v in 0..n {
-        let found = try_one(n, lines, Station(v as u16), gone, pieces);
+    for one in 0..n {
+        let found = try_one(n, lines, Station(one as u16), gone, pieces);
         if is_weak(found) {
             return found;
         }

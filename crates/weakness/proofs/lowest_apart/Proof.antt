@@ -1,5 +1,5 @@
--- `weakness::lowest_apart` meets its contract. The loop's invariant: the lowest station apart from v on is the lowest of all. The measure
--- is n - v. Assumes nothing.
+-- `weakness::lowest_apart` meets its contract. The loop's invariant: the lowest station apart from b on is the lowest of all. The measure
+-- is n - b. Assumes nothing.
 use Rattle.weakness.specs.Looking.{isApart}
 use Rattle.laws.proofs.Fold.{first-start, first-next, first-here, first-none}
 use Rattle.laws.specs.Fold.{firstFrom, lowest}
@@ -30,11 +30,11 @@ returns : tie.Need-returns Inv-loop μ-loop
 returns c =
     let a = c .before .before .before .before .before .before .args in
     let test = isApart (a .gone .now) (a .pieces .now) (a .one .0) in
-    let e : test (c .before .before .before .loop .v) ≡ true = sym (c .before .is-apart .ensures) ∙ c .if1 .taken in
-    sym (c .before .before .before .loop .inv .1 ∙ first-here test (λ v. v) (a .n) (a .n) (c .before .before .before .loop .v) (omega (arith, c .before .before .loop-test .taken)) e)
+    let e : test (c .before .before .before .loop .b) ≡ true = sym (c .before .is-apart .ensures) ∙ c .if1 .taken in
+    sym (c .before .before .before .loop .inv .1 ∙ first-here test (λ v. v) (a .n) (a .n) (c .before .before .before .loop .b) (omega (arith, c .before .before .loop-test .taken)) e)
 
-add-v : tie.Need-add-v Inv-loop μ-loop
-add-v c = search needs
+add-b : tie.Need-add-b Inv-loop μ-loop
+add-b c = search needs
 
 loop-less : tie.Need-loop-less Inv-loop μ-loop
 loop-less c = search needs
@@ -43,8 +43,8 @@ loop-again : tie.Need-loop-again Inv-loop μ-loop
 loop-again c =
     let a = c .before .before .before .before .before .before .args in
     let test = isApart (a .gone .now) (a .pieces .now) (a .one .0) in
-    let e : test (c .before .before .before .loop .v) ≡ false = sym (c .before .is-apart .ensures) ∙ c .if1 .left in
-    (omega (arith, c .before .before .loop-test .taken), c .before .before .before .loop .inv .1 ∙ first-next test (λ v. v) (a .n) (a .n) (c .before .before .before .loop .v) (omega (arith, c .before .before .loop-test .taken)) e)
+    let e : test (c .before .before .before .loop .b) ≡ false = sym (c .before .is-apart .ensures) ∙ c .if1 .left in
+    (omega (arith, c .before .before .loop-test .taken), c .before .before .before .loop .inv .1 ∙ first-next test (λ v. v) (a .n) (a .n) (c .before .before .before .loop .b) (omega (arith, c .before .before .loop-test .taken)) e)
 
 cast-t10 : tie.Need-cast-t10 Inv-loop μ-loop
 cast-t10 c = search needs
@@ -53,7 +53,7 @@ returns-2 : tie.Need-returns-2 Inv-loop μ-loop
 returns-2 c =
     let a = c .before .before .before .before .args in
     let test = isApart (a .gone .now) (a .pieces .now) (a .one .0) in
-    sym (c .before .loop .inv .1 ∙ first-none test (λ v. v) (a .n) (a .n) (c .before .loop .v) (omega (arith, c .loop-test .left)))
+    sym (c .before .loop .inv .1 ∙ first-none test (λ v. v) (a .n) (a .n) (c .before .loop .b) (omega (arith, c .loop-test .left)))
 
 pub lowest-apart-spec : {M : Type 1} → statement M
 lowest-apart-spec =
@@ -65,7 +65,7 @@ lowest-apart-spec =
     cast-t8
     is-apart-requires
     returns
-    add-v
+    add-b
     loop-less
     loop-again
     cast-t10

@@ -1,5 +1,5 @@
--- `weakness::lowest_remaining` meets its contract. The loop's invariant: the lowest station that remains from v on is the lowest of all.
--- The measure is n - v. Assumes nothing.
+-- `weakness::lowest_remaining` meets its contract. The loop's invariant: the lowest station that remains from a on is the lowest of all.
+-- The measure is n - a. Assumes nothing.
 use Rattle.weakness.specs.Standing.{lowestRemaining}
 use Rattle.joined.specs.Marks.{isGone}
 use Rattle.laws.proofs.Fold.{first-start, first-next, first-here, first-none}
@@ -32,11 +32,11 @@ returns : tie.Need-returns Inv-loop μ-loop
 returns c =
     let a = c .before .before .before .before .args in
     let test : ℕ → Bool = λ v. not (isGone (a .gone .now) v) in
-    let e : test (c .before .before .before .loop .v) ≡ true = rw (c .if1 .taken) in
-    sym (c .before .before .before .loop .inv .1 ∙ first-here test (λ v. v) (a .n) (a .n) (c .before .before .before .loop .v) (omega (arith, c .before .before .loop-test .taken)) e)
+    let e : test (c .before .before .before .loop .a) ≡ true = rw (c .if1 .taken) in
+    sym (c .before .before .before .loop .inv .1 ∙ first-here test (λ v. v) (a .n) (a .n) (c .before .before .before .loop .a) (omega (arith, c .before .before .loop-test .taken)) e)
 
-add-v : tie.Need-add-v Inv-loop μ-loop
-add-v c = search needs
+add-a : tie.Need-add-a Inv-loop μ-loop
+add-a c = search needs
 
 loop-less : tie.Need-loop-less Inv-loop μ-loop
 loop-less c = search needs
@@ -45,8 +45,8 @@ loop-again : tie.Need-loop-again Inv-loop μ-loop
 loop-again c =
     let a = c .before .before .before .before .args in
     let test : ℕ → Bool = λ v. not (isGone (a .gone .now) v) in
-    let e : test (c .before .before .before .loop .v) ≡ false = rw (c .if1 .left) in
-    (omega (arith, c .before .before .loop-test .taken), c .before .before .before .loop .inv .1 ∙ first-next test (λ v. v) (a .n) (a .n) (c .before .before .before .loop .v) (omega (arith, c .before .before .loop-test .taken)) e)
+    let e : test (c .before .before .before .loop .a) ≡ false = rw (c .if1 .left) in
+    (omega (arith, c .before .before .loop-test .taken), c .before .before .before .loop .inv .1 ∙ first-next test (λ v. v) (a .n) (a .n) (c .before .before .before .loop .a) (omega (arith, c .before .before .loop-test .taken)) e)
 
 cast-t8 : tie.Need-cast-t8 Inv-loop μ-loop
 cast-t8 c = search needs
@@ -55,7 +55,7 @@ returns-2 : tie.Need-returns-2 Inv-loop μ-loop
 returns-2 c =
     let a = c .before .before .args in
     let test : ℕ → Bool = λ v. not (isGone (a .gone .now) v) in
-    sym (c .before .loop .inv .1 ∙ first-none test (λ v. v) (a .n) (a .n) (c .before .loop .v) (omega (arith, c .loop-test .left)))
+    sym (c .before .loop .inv .1 ∙ first-none test (λ v. v) (a .n) (a .n) (c .before .loop .a) (omega (arith, c .loop-test .left)))
 
 pub lowest-remaining-spec : {M : Type 1} → statement M
 lowest-remaining-spec =
@@ -67,7 +67,7 @@ lowest-remaining-spec =
     shared-slice-read-if1
     cast-t7
     returns
-    add-v
+    add-a
     loop-less
     loop-again
     cast-t8

@@ -1,5 +1,5 @@
--- `weakness::try_ones` meets its contract. The loop's invariant: what is left to try from v on is the answer, and no mark is set. The
--- measure is n - v. Assumes nothing.
+-- `weakness::try_ones` meets its contract. The loop's invariant: what is left to try from station one on is the answer, and no mark is set. The
+-- measure is n - one. Assumes nothing.
 use Rattle.weakness.specs.Standing.{Standing, Standing.stands, isWeak, without, withoutOnes}
 use Rattle.joined.specs.Marks.{Unmarked}
 use Rattle.laws.proofs.Fold.{first-start, first-next, first-here, first-none}
@@ -44,11 +44,11 @@ returns c =
     let a = c .before .before .before .before .before .before .before .before .before .before .before .before .before .before .args in
     let p = c .before .before .before .before .before .before .before .before .before .before .before .before .before .before .pre in
     let find : ℕ → Standing = λ (x : ℕ). without (a .n) (a .lines .now) (x ∷ []) in
-    let e : isWeak (find (c .before .before .before .before .before .before .before .before .before .before .loop .v)) ≡ true = rw (← (c .before .before .before .before .before .before .try-one .ensures .0)) (sym (c .before .is-weak .ensures) ∙ c .if1 .taken) in
-    (c .before .before .before .before .before .before .try-one .ensures .0 ∙ sym (c .before .before .before .before .before .before .before .before .before .before .loop .inv .4 ∙ first-here isWeak find stands (a .n) (c .before .before .before .before .before .before .before .before .before .before .loop .v) (omega (arith, c .before .before .before .before .before .before .before .before .before .loop-test .taken)) e), c .before .before .before .before .before .before .try-one .ensures .1)
+    let e : isWeak (find (c .before .before .before .before .before .before .before .before .before .before .loop .one)) ≡ true = rw (← (c .before .before .before .before .before .before .try-one .ensures .0)) (sym (c .before .is-weak .ensures) ∙ c .if1 .taken) in
+    (c .before .before .before .before .before .before .try-one .ensures .0 ∙ sym (c .before .before .before .before .before .before .before .before .before .before .loop .inv .4 ∙ first-here isWeak find stands (a .n) (c .before .before .before .before .before .before .before .before .before .before .loop .one) (omega (arith, c .before .before .before .before .before .before .before .before .before .loop-test .taken)) e), c .before .before .before .before .before .before .try-one .ensures .1)
 
-add-v : tie.Need-add-v Inv-loop μ-loop
-add-v c = search needs
+add-one : tie.Need-add-one Inv-loop μ-loop
+add-one c = search needs
 
 loop-less : tie.Need-loop-less Inv-loop μ-loop
 loop-less c = search needs
@@ -58,8 +58,8 @@ loop-again c =
     let a = c .before .before .before .before .before .before .before .before .before .before .before .before .before .before .args in
     let p = c .before .before .before .before .before .before .before .before .before .before .before .before .before .before .pre in
     let find : ℕ → Standing = λ (x : ℕ). without (a .n) (a .lines .now) (x ∷ []) in
-    let e : isWeak (find (c .before .before .before .before .before .before .before .before .before .before .loop .v)) ≡ false = rw (← (c .before .before .before .before .before .before .try-one .ensures .0)) (sym (c .before .is-weak .ensures) ∙ c .if1 .left) in
-    (omega (arith, c .before .before .before .before .before .before .before .before .before .loop-test .taken), omega arith, c .before .before .before .before .before .before .try-one .ensures .1, omega arith, c .before .before .before .before .before .before .before .before .before .before .loop .inv .4 ∙ first-next isWeak find stands (a .n) (c .before .before .before .before .before .before .before .before .before .before .loop .v) (omega (arith, c .before .before .before .before .before .before .before .before .before .loop-test .taken)) e)
+    let e : isWeak (find (c .before .before .before .before .before .before .before .before .before .before .loop .one)) ≡ false = rw (← (c .before .before .before .before .before .before .try-one .ensures .0)) (sym (c .before .is-weak .ensures) ∙ c .if1 .left) in
+    (omega (arith, c .before .before .before .before .before .before .before .before .before .loop-test .taken), omega arith, c .before .before .before .before .before .before .try-one .ensures .1, omega arith, c .before .before .before .before .before .before .before .before .before .before .loop .inv .4 ∙ first-next isWeak find stands (a .n) (c .before .before .before .before .before .before .before .before .before .before .loop .one) (omega (arith, c .before .before .before .before .before .before .before .before .before .loop-test .taken)) e)
 
 same-length-3 : tie.Need-same-length-3 Inv-loop μ-loop
 same-length-3 c = search needs
@@ -72,7 +72,7 @@ returns-2 c =
     let a = c .before .before .before .before .before .args in
     let p = c .before .before .before .before .before .pre in
     let find : ℕ → Standing = λ (x : ℕ). without (a .n) (a .lines .now) (x ∷ []) in
-    (sym (c .before .loop .inv .4 ∙ first-none isWeak find stands (a .n) (c .before .loop .v) (omega (arith, c .loop-test .left))), c .before .loop .inv .2)
+    (sym (c .before .loop .inv .4 ∙ first-none isWeak find stands (a .n) (c .before .loop .one) (omega (arith, c .loop-test .left))), c .before .loop .inv .2)
 
 pub try-ones-spec : {M : Type 1} → statement M
 try-ones-spec =
@@ -87,7 +87,7 @@ try-ones-spec =
     same-length
     same-length-2
     returns
-    add-v
+    add-one
     loop-less
     loop-again
     same-length-3
