@@ -34,7 +34,7 @@ cast-t11 : tie.Need-cast-t11 Inv-loop μ-loop
 cast-t11 c = search needs
 
 try-two-requires : tie.Need-try-two-requires Inv-loop μ-loop
-try-two-requires c κs = (c .before .before .before .before .before .before .before .before .pre .0, c .before .before .before .loop .inv .2, c .before .before .before .loop .inv .3, c .before .before .before .loop .inv .4, c .before .before .before .before .before .before .before .before .pre .4, omega (arith, c .before .before .loop-test .taken))
+try-two-requires c κs = (c .before .before .before .before .before .before .before .before .pre .0, c .before .before .before .loop .inv .2, c .before .before .before .loop .inv .3, c .before .before .before .loop .inv .4, omega (arith, c .before .before .before .before .before .before .before .before .pre .4, c .before .before .loop-test .taken), omega (arith, c .before .before .before .before .before .before .before .before .pre .4, c .before .before .loop-test .taken))
 
 is-weak-requires : tie.Need-is-weak-requires Inv-loop μ-loop
 is-weak-requires c κs = search needs
