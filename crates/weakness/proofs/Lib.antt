@@ -1,0 +1,9 @@
+pub mod Looking
+pub mod Standing
+pub mod Remaining
+pub mod Agree
+pub mod Pruned
+pub mod Judging
+pub mod Tries
+pub mod Whole
+pub mod Determined

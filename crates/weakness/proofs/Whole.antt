@@ -1,0 +1,242 @@
+-- THEOREMS. A network stands at level k exactly when no set of fewer than k stations parts it; and the answer is otherwise its weak spot.
+-- Assumes nothing.
+
+-- ── one set of stations ──
+
+use Prim.Native.Nat.{ℕ, zero, suc, _+_, _<_, _≤_}
+use mathlib.Core.Path.{_≡_, refl, sym, ap, _∙_}
+use mathlib.Core.Bool.{Bool, true, false, not, _&&_, _||_, true≢false}
+use mathlib.Core.List.{List, [], _∷_}
+use mathlib.Core.Logic.{_⊎_, _⊎_.inl, _⊎_.inr, _↔_}
+use native.Mathlib.Decide.{ℕ-discrete}
+use native.Mathlib.Omega.{arith}
+use borrow.Author.Tests.{lt-ltb, le-ltb, eq-eqb, ne-eqb, not-false, not-true}
+use lib.Dec.{eqb}
+use lib.ListN.{length}
+use Rattle.laws.specs.Fold.{firstFrom, lowest}
+use Rattle.laws.specs.Count.{count, bit}
+use Rattle.laws.proofs.Fold.{FoundAt, FoundNone, first-cases}
+use Rattle.network.specs.Lines.{network}
+use Rattle.network.specs.Chains.{Chain, Chain.here, Chain.step}
+use Rattle.network.specs.Faults.{Sound}
+use Rattle.joined.specs.Joined.{Remains, Joined}
+use Rattle.joined.specs.Pieces.{isAway, onePiece}
+use Rattle.joined.specs.Rising.{Rising}
+use Rattle.joined.proofs.Asking.{away-stands}
+use Rattle.joined.proofs.Chains.{joined-back, joined-then, one-piece-joined, joined-one-piece}
+use Rattle.weakness.specs.Standing.{Standing, Standing.stands, Standing.weak, isWeak, lowestRemaining, lowestApart, without, weakSpot}
+use Rattle.weakness.specs.Parting.{Whole, Parts, IsWeakSpot}
+use Rattle.weakness.proofs.Looking.{is-one, is-two}
+use Rattle.weakness.proofs.Remaining.{lowest-remains, none-few, one-few, two-few}
+use Rattle.weakness.proofs.Tries.{none-rising, one-rising, two-rising, rising-one, FirstWeak, NoneWeak, tries}
+
+and-false : (b c : Bool) → (not b && not c) ≡ false → b ≡ false → c ≡ true
+and-false true c e f = absurd (true≢false f)
+and-false false c e f = not-false c e
+
+and-true : (b c : Bool) → (not b && not c) ≡ true → (b ≡ false) × (c ≡ false)
+and-true true c e = absurd (true≢false (sym e))
+and-true false c e = (refl, not-true c e)
+
+module _ (n : ℕ) (lines : List ℕ) (sound : Sound n lines) (spot : List ℕ) where
+  abbrev low : ℕ
+  low = lowestRemaining n (isAway spot)
+
+  abbrev apart : ℕ → Bool
+  apart v = not (isAway spot v) && not (onePiece n lines (isAway spot) low v)
+
+  -- a remaining station that does not pass the test is joined to the lowest
+  passed-joined : (v : ℕ) → Remains n (isAway spot) v → apart v ≡ false → Joined n lines (isAway spot) low v
+  passed-joined v r e =
+      one-piece-joined n lines (isAway spot) (sound .simple .proper) (lowest-remains n (isAway spot) v r .remains) r
+      (and-false (isAway spot v) (onePiece n lines (isAway spot) low v) e (r .stays))
+
+  pub without-cases : ((without n lines spot ≡ stands) × Whole n lines (isAway spot))
+      ⊎ ((a b : ℕ) × (without n lines spot ≡ weak spot a b) × Parts n lines (isAway spot) a b)
+  unfolding without lowestApart
+  without-cases = go (first-cases apart (λ v. v) n 0 n)
+    where
+      go : FoundAt apart (λ v. v) 0 n (lowest apart n n) ⊎ FoundNone apart (λ v. v) n 0 n (lowest apart n n)
+          → ((without n lines spot ≡ stands) × Whole n lines (isAway spot)) ⊎ ((a b : ℕ) × (without n lines spot ≡ weak spot a b) × Parts n lines (isAway spot) a b)
+      go (inr r) =
+          inl (
+            rw (r .is, le-ltb n n (omega arith)),
+            record {
+              joined = λ u v s t.
+                  joined-then n lines (isAway spot)
+                  (joined-back n lines (isAway spot) (passed-joined u s (r .none u (omega arith) (omega (arith, s .station)))))
+                  (passed-joined v t (r .none v (omega arith) (omega (arith, t .station))));
+            },
+          )
+      go (inl r) =
+          let (x, y) = and-true (isAway spot (r .place)) (onePiece n lines (isAway spot) low (r .place)) (r .passes) in
+          let b-in : r .place < n = omega (arith, r .below) in
+          let second : Remains n (isAway spot) (r .place) = record { station = b-in; stays = x } in
+          let least = lowest-remains n (isAway spot) (r .place) second in
+          inr (
+            low,
+            r .place,
+            rw (r .is, lt-ltb (r .place) n b-in),
+            record {
+              first = least .remains;
+              lowest = least .lowest;
+              second = second;
+              apart = λ c. true≢false (sym (joined-one-piece n lines (isAway spot) (sound .simple .proper) c) ∙ y);
+              below = λ v s l. passed-joined v s (r .earlier v (omega arith) l);
+            },
+          )
+
+  -- a set that is not found weak parts no two
+  pub sturdy-whole : isWeak (without n lines spot) ≡ false → Whole n lines (isAway spot)
+  sturdy-whole e = go without-cases
+    where
+      go : ((without n lines spot ≡ stands) × Whole n lines (isAway spot)) ⊎ ((a b : ℕ) × (without n lines spot ≡ weak spot a b) × Parts n lines (isAway spot) a b)
+          → Whole n lines (isAway spot)
+      go (inl w) = w .1
+      go (inr (a, b, f, p)) = absurd (true≢false (sym (ap isWeak f) ∙ e))
+
+-- ── every set of at most two stations is one that is tried ──
+
+-- A list that spells a set of stations out, in rising order.
+record Spelled (n : ℕ) (away : ℕ → Bool) : Type 0 where
+  spot : List ℕ
+  rising : Rising n spot
+  size : length spot ≡ count n away
+  same : (u : ℕ) → u < n → away u ≡ isAway spot u
+
+rising-more : {n : ℕ} {spot : List ℕ} → Rising n spot → Rising (suc n) spot
+rising-more r = record { below = λ j l. omega (arith, r .below j l); above = r .above }
+
+-- A list of stations below n does not hold n.
+not-held : {n : ℕ} (spot : List ℕ) → Rising n spot → isAway spot n ≡ false
+not-held {n} spot r = go (isAway spot n) refl
+  where
+    go : (b : Bool) → isAway spot n ≡ b → b ≡ false
+    go false e = refl
+    go true e = let (j, l, f) = away-stands spot n e in absurd (omega (arith, r .below j l, f))
+
+spelled : (n : ℕ) (away : ℕ → Bool) → count n away < 3 → Spelled n away
+unfolding isAway firstFrom
+spelled zero away few = record { spot = []; rising = none-rising 0; size = refl; same = λ u l. absurd (omega arith) }
+spelled (suc n) away few = go (away n) refl (λ h. spelled n away h)
+  where
+    -- what is so below n and at n is so below n + 1
+    up-to : (other : ℕ → Bool) → away n ≡ other n → ((u : ℕ) → u < n → away u ≡ other u) → (u : ℕ) → u < suc n → away u ≡ other u
+    up-to other e h u l = at (ℕ-discrete u n)
+      where
+        at : Dec (u ≡ n) → away u ≡ other u
+        at (yes f) = rw f e
+        at (no m) = h u (omega arith)
+
+    go : (b : Bool) → away n ≡ b → (count n away < 3 → Spelled n away) → Spelled (suc n) away
+    go false e ih =
+        let nothing : bit (away n) ≡ 0 = rw e in
+        let s = ih (omega arith) in
+        record { spot = s .spot; rising = rising-more (s .rising); size = omega (arith, s .size); same = up-to (isAway (s .spot)) (e ∙ sym (not-held (s .spot) (s .rising))) (s .same) }
+    go true e ih =
+        let one : bit (away n) ≡ 1 = rw e in
+        more one (ih (omega arith))
+      where
+        add : bit (away n) ≡ 1 → (spot : List ℕ) → Rising n spot → length spot ≡ count n away → ((u : ℕ) → u < n → away u ≡ isAway spot u) → Spelled (suc n) away
+        add one [] r size same =
+            record {
+              spot = n ∷ [];
+              rising = one-rising (suc n) n (omega arith);
+              size = omega arith;
+              same = up-to (isAway (n ∷ [])) (rw (e, is-one n n, eq-eqb n n refl)) (λ u l. same u l ∙ sym (is-one n u ∙ ne-eqb n u (λ (f : n ≡ u). omega arith)));
+            }
+        add one (v ∷ []) r size same =
+            record {
+              spot = v ∷ (n ∷ []);
+              rising = two-rising (suc n) v n (rising-one r) (omega arith);
+              size = omega arith;
+              same = up-to (isAway (v ∷ (n ∷ []))) (rw (e, is-two v n n, eq-eqb n n refl) (or-true (eqb v n)))
+                  (λ u l. same u l ∙ (is-one v u ∙ sym (rw (is-two v n u, ne-eqb n u (λ (f : n ≡ u). omega arith)) (or-false (eqb v u)))));
+            }
+          where
+            or-true : (b : Bool) → true ≡ (b || true)
+            or-true true = refl
+            or-true false = refl
+
+            or-false : (b : Bool) → (b || false) ≡ b
+            or-false true = refl
+            or-false false = refl
+        add one (v ∷ (w ∷ t)) r size same = absurd (omega arith)
+
+        more : bit (away n) ≡ 1 → Spelled n away → Spelled (suc n) away
+        more one s = add one (s .spot) (s .rising) (s .size) (s .same)
+
+-- A set that is tried takes few stations away.
+spot-few : (n : ℕ) (spot : List ℕ) → length spot < 3 → count n (isAway spot) ≤ length spot
+spot-few n [] h = omega (arith, none-few n)
+spot-few n (v ∷ []) h = one-few n v
+spot-few n (v ∷ (w ∷ [])) h = two-few n v w
+spot-few n (v ∷ (w ∷ (x ∷ t))) h = absurd (omega arith)
+
+-- ── the same set, told in two ways ──
+
+chain-stays : {hop : ℕ → ℕ → Type 0} {stays stays′ : ℕ → Type 0} {u v : ℕ} → ((x : ℕ) → stays x → stays′ x) → Chain hop stays u v → Chain hop stays′ u v
+chain-stays f (here s) = here (f _ s)
+chain-stays f (step s h c) = step (f _ s) h (chain-stays f c)
+
+whole-same : {n : ℕ} {lines : List ℕ} {away other : ℕ → Bool} → ((u : ℕ) → u < n → away u ≡ other u) → Whole n lines other → Whole n lines away
+whole-same {n} {lines} {away} {other} same w =
+    record {
+      joined = λ u v s t.
+          let s′ : Remains n other u = record { station = s .station; stays = sym (same u (s .station)) ∙ s .stays } in
+          let t′ : Remains n other v = record { station = t .station; stays = sym (same v (t .station)) ∙ t .stays } in
+          chain-stays (λ x (r : Remains n other x). record { station = r .station; stays = same x (r .station) ∙ r .stays }) (w .joined u v s′ t′);
+    }
+
+-- ── the theorems ──
+
+module _ (n k : ℕ) (lines : List ℕ) (sound : Sound n lines) (some : 1 ≤ k) (most : k ≤ 3) where
+  none-whole : NoneWeak n lines k → (away : ℕ → Bool) → count n away < k → Whole n lines away
+  none-whole r away few =
+      let s = spelled n away (omega arith) in
+      whole-same (s .same) (sturdy-whole n lines sound (s .spot) (r .none (s .spot) (record { few = omega (arith, s .size); rising = s .rising })))
+
+  -- the first set that is weak is the weak spot
+  first-weak : (r : FirstWeak n lines k) {spot : List ℕ} {a b : ℕ} → weakSpot n k lines ≡ weak spot a b → IsWeakSpot n k lines spot a b
+  first-weak r {spot} {a} {b} e = go (without-cases n lines sound (r .spot))
+    where
+      go : ((without n lines (r .spot) ≡ stands) × Whole n lines (isAway (r .spot)))
+          ⊎ ((c d : ℕ) × (without n lines (r .spot) ≡ weak (r .spot) c d) × Parts n lines (isAway (r .spot)) c d)
+          → IsWeakSpot n k lines spot a b
+      go (inl w) = absurd (true≢false (sym (r .parts) ∙ ap isWeak (w .0)))
+      go (inr (c, d, f, p)) =
+          let same : _≡_ {A = Standing} (weak (r .spot) c d) (weak spot a b) = sym f ∙ (sym (r .is) ∙ e) in
+          let x : r .spot ≡ spot = cc in
+          let y : c ≡ a = cc in
+          let z : d ≡ b = cc in
+          let found : IsWeakSpot n k lines (r .spot) c d =
+          record { tried = r .tried; parts = p; none-earlier = λ s t f. sturdy-whole n lines sound s (r .earlier s t f) } in
+          rw (x, y, z) at found
+
+  -- THEOREM. Where the answer is a weak spot, it is the weak spot of the network.
+  pub weak-spot : {spot : List ℕ} {a b : ℕ} → weakSpot n k lines ≡ weak spot a b → IsWeakSpot n k lines spot a b
+  weak-spot {spot} {a} {b} e = go (tries n lines k some most)
+    where
+      go : FirstWeak n lines k ⊎ NoneWeak n lines k → IsWeakSpot n k lines spot a b
+      go (inl r) = first-weak r e
+      go (inr r) = absurd (true≢false (ap isWeak (sym e ∙ r .is)))
+
+  -- THEOREM. A network stands exactly when no set of fewer than k stations parts any two remaining ones.
+  pub stands-whole : (weakSpot n k lines ≡ stands) ↔ ((away : ℕ → Bool) → count n away < k → Whole n lines away)
+  stands-whole = (λ e. forth e (tries n lines k some most), λ h. back h (tries n lines k some most))
+    where
+      forth : weakSpot n k lines ≡ stands → FirstWeak n lines k ⊎ NoneWeak n lines k → (away : ℕ → Bool) → count n away < k → Whole n lines away
+      forth e (inl r) = absurd (true≢false (sym (r .parts) ∙ (ap isWeak (sym (r .is)) ∙ ap isWeak e)))
+      forth e (inr r) = none-whole r
+
+      parted : ((away : ℕ → Bool) → count n away < k → Whole n lines away) → (r : FirstWeak n lines k)
+          → ((without n lines (r .spot) ≡ stands) × Whole n lines (isAway (r .spot)))
+          ⊎ ((c d : ℕ) × (without n lines (r .spot) ≡ weak (r .spot) c d) × Parts n lines (isAway (r .spot)) c d)
+          → ⊥
+      parted h r (inl w) = true≢false (sym (r .parts) ∙ ap isWeak (w .0))
+      parted h r (inr (c, d, f, p)) =
+          p .apart (h (isAway (r .spot)) (omega (arith, r .tried .few, spot-few n (r .spot) (omega (arith, r .tried .few)))) .joined c d (p .first) (p .second))
+
+      back : ((away : ℕ → Bool) → count n away < k → Whole n lines away) → FirstWeak n lines k ⊎ NoneWeak n lines k → weakSpot n k lines ≡ stands
+      back h (inl r) = absurd (parted h r (without-cases n lines sound (r .spot)))
+      back h (inr r) = r .is
