@@ -1,6 +1,30 @@
 // Weak spots: the fewest stations that, taken away, leave two others not joined.
+use joined::find_pieces;
+use kept::copy_kept;
+use kept::count_kept;
+use kinds::Judged;
+use kinds::Level;
+use kinds::LineList;
 use kinds::Refusal;
 use kinds::Station;
+use kinds::is_refused;
+use network::judge_length;
+use network::judge_list;
+use network::judge_stations;
+use prune::prune;
+ghost use mathlib.Core.Path.{_≡_};
+ghost use mathlib.Core.Bool.{not};
+ghost use mathlib.Core.List.{List, [], _∷_};
+ghost use Prim.Native.Nat.{ℕ, _≤_, _<_};
+ghost use lib.ListN.{length};
+ghost use Rattle.laws.specs.Fold.{lowest};
+ghost use Rattle.kinds.specs.Answers.{judgedAnswer};
+ghost use Rattle.network.specs.Faults.{Sound};
+ghost use Rattle.joined.specs.Marks.{isGone, Unmarked, Gone};
+ghost use Rattle.certificate.specs.Starts.{StartsIn};
+ghost use Rattle.weakness.specs.Standing.{isWeak, lowestRemaining, without, withoutOnes, withoutSeconds, withoutTwos, weakSpot, weakLevelJudged, weakJudged, weakAnswer};
+ghost use Rattle.weakness.specs.Looking.{partedStanding, isApart};
+ghost use Rattle.weakness.specs.Answers.{spotStations, foundStanding, searchedAnswer};
 
 // The stations of a weak spot, at most two, the lower first.
 pub enum Spot {
@@ -26,4 +50,300 @@ pub enum Found {
 pub enum Searched {
     Decided(Found),
     Refused(Refusal),
+}
+
+// What is parted where some stations are taken away: nothing, or one station from another.
+enum Parted {
+    Whole,
+    Between(Station, Station),
+}
+
+// Whether a weak spot is found.
+fn is_weak(found: Found) -> bool
+    ensures weak { λ r. ⌜ r ≡ isWeak (foundStanding found) ⌝ }
+{
+    match found {
+        Found::Stands => false,
+        Found::Weak(_) => true,
+    }
+}
+
+// What is found where the stations of a spot are taken away.
+fn found_at(spot: Spot, parted: Parted) -> Found
+    ensures found { λ r. ⌜ foundStanding r ≡ partedStanding (spotStations spot) parted ⌝ }
+{
+    match parted {
+        Parted::Whole => Found::Stands,
+        Parted::Between(one, two) => Found::Weak(WeakSpot { spot, one, two }),
+    }
+}
+
+// The lowest station that is not marked; n where each is.
+fn lowest_remaining(n: usize, gone: &[bool]) -> Station
+    requires { ⌜ (n ≤ 1024) × (length (now gone) ≡ n) ⌝ }
+    ensures lowest { λ r. ⌜ r .0 ≡ lowestRemaining n (isGone (now (gone .entry))) ⌝ }
+{
+    for v in 0..n {
+        if !gone[v] {
+            return Station(v as u16);
+        }
+    }
+    Station(n as u16)
+}
+
+// Whether a station remains and is of another piece than the first.
+fn is_apart(one: Station, two: Station, gone: &[bool], pieces: &[u16]) -> bool
+    requires { ⌜ (one .0 < length (now pieces)) × (two .0 < length (now pieces)) × (length (now gone) ≡ length (now pieces)) ⌝ }
+    ensures apart { λ r. ⌜ r ≡ isApart (now (gone .entry)) (now (pieces .entry)) (one .0) (two .0) ⌝ }
+{
+    let a = one.0 as usize;
+    let b = two.0 as usize;
+    if gone[b] {
+        return false;
+    }
+    pieces[a] != pieces[b]
+}
+
+// The lowest station that remains and is of another piece than the first; n where there is none.
+fn lowest_apart(n: usize, one: Station, gone: &[bool], pieces: &[u16]) -> Station
+    requires { ⌜ (n ≤ 1024) × (one .0 < n) × (length (now gone) ≡ n) × (length (now pieces) ≡ n) ⌝ }
+    ensures lowest { λ r. ⌜ r .0 ≡ lowest (isApart (now (gone .entry)) (now (pieces .entry)) (one .0)) n n ⌝ }
+{
+    for v in 0..n {
+        let two = Station(v as u16);
+        if is_apart(one, two, gone, pieces) {
+            return two;
+        }
+    }
+    Station(n as u16)
+}
+
+// Looks whether what remains is parted: the lowest remaining station from the lowest that is not joined to it.
+fn look(n: usize, lines: &[u16], gone: &[bool], pieces: &mut [u16]) -> Parted
+    requires { ⌜ Sound n (now lines) × (length (now gone) ≡ n) × (length (now pieces) ≡ n) ⌝ }
+    ensures parted { λ r. ⌜ ((spot : List ℕ) → Gone spot (now (gone .entry)) → partedStanding spot r ≡ without n (now (lines .entry)) spot) ⌝ }
+{
+    let one = lowest_remaining(n, gone);
+    if n <= one.0 as usize {
+        return Parted::Whole;
+    }
+    find_pieces(n, lines, gone, pieces);
+    let two = lowest_apart(n, one, gone, pieces);
+    if n <= two.0 as usize {
+        return Parted::Whole;
+    }
+    Parted::Between(one, two)
+}
+
+// No station is taken away.
+fn try_none(n: usize, lines: &[u16], gone: &[bool], pieces: &mut [u16]) -> Found
+    requires { ⌜ Sound n (now lines) × (length (now gone) ≡ n) × Unmarked (now gone) × (length (now pieces) ≡ n) ⌝ }
+    ensures found { λ r. ⌜ foundStanding r ≡ without n (now (lines .entry)) [] ⌝ }
+{
+    found_at(Spot::Empty, look(n, lines, gone, pieces))
+}
+
+// One station is taken away, and put back.
+fn try_one(n: usize, lines: &[u16], one: Station, gone: &mut [bool], pieces: &mut [u16]) -> Found
+    requires { ⌜ Sound n (now lines) × (length (now gone) ≡ n) × Unmarked (now gone) × (length (now pieces) ≡ n) × (one .0 < n) ⌝ }
+    ensures found { λ r. ⌜ foundStanding r ≡ without n (now (lines .entry)) (one .0 ∷ []) ⌝ }
+    ensures gone { λ _. ⌜ Unmarked (now (gone .exit)) ⌝ }
+{
+    let a = one.0 as usize;
+    gone[a] = true;
+    let parted = look(n, lines, gone, pieces);
+    gone[a] = false;
+    found_at(Spot::One(one), parted)
+}
+
+// Two stations are taken away, and put back.
+fn try_two(
+    n: usize,
+    lines: &[u16],
+    one: Station,
+    two: Station,
+    gone: &mut [bool],
+    pieces: &mut [u16],
+) -> Found
+    requires { ⌜ Sound n (now lines) × (length (now gone) ≡ n) × Unmarked (now gone) × (length (now pieces) ≡ n) × (one .0 < n) × (two .0 < n) ⌝ }
+    ensures found { λ r. ⌜ foundStanding r ≡ without n (now (lines .entry)) (one .0 ∷ (two .0 ∷ [])) ⌝ }
+    ensures gone { λ _. ⌜ Unmarked (now (gone .exit)) ⌝ }
+{
+    let a = one.0 as usize;
+    let b = two.0 as usize;
+    gone[a] = true;
+    gone[b] = true;
+    let parted = look(n, lines, gone, pieces);
+    gone[a] = false;
+    gone[b] = false;
+    found_at(Spot::Two(one, two), parted)
+}
+
+// Each one station, the smallest number first.
+fn try_ones(n: usize, lines: &[u16], gone: &mut [bool], pieces: &mut [u16]) -> Found
+    requires { ⌜ Sound n (now lines) × (length (now gone) ≡ n) × Unmarked (now gone) × (length (now pieces) ≡ n) ⌝ }
+    ensures found { λ r. ⌜ foundStanding r ≡ withoutOnes n (now (lines .entry)) ⌝ }
+    ensures gone { λ _. ⌜ Unmarked (now (gone .exit)) ⌝ }
+{
+    for v in 0..n {
+        let found = try_one(n, lines, Station(v as u16), gone, pieces);
+        if is_weak(found) {
+            return found;
+        }
+    }
+    Found::Stands
+}
+
+// One station with each higher one, the smallest second number first.
+fn try_seconds(
+    n: usize,
+    lines: &[u16],
+    one: Station,
+    gone: &mut [bool],
+    pieces: &mut [u16],
+) -> Found
+    requires { ⌜ Sound n (now lines) × (length (now gone) ≡ n) × Unmarked (now gone) × (length (now pieces) ≡ n) × (one .0 < n) ⌝ }
+    ensures found { λ r. ⌜ foundStanding r ≡ withoutSeconds n (now (lines .entry)) (one .0) ⌝ }
+    ensures gone { λ _. ⌜ Unmarked (now (gone .exit)) ⌝ }
+{
+    let from = one.0 as usize + 1;
+    for w in from..n {
+        let found = try_two(n, lines, one, Station(w as u16), gone, pieces);
+        if is_weak(found) {
+            return found;
+        }
+    }
+    Found::Stands
+}
+
+// Each two stations, the smallest first number first.
+fn try_twos(n: usize, lines: &[u16], gone: &mut [bool], pieces: &mut [u16]) -> Found
+    requires { ⌜ Sound n (now lines) × (length (now gone) ≡ n) × Unmarked (now gone) × (length (now pieces) ≡ n) ⌝ }
+    ensures found { λ r. ⌜ foundStanding r ≡ withoutTwos n (now (lines .entry)) ⌝ }
+{
+    for v in 0..n {
+        let found = try_seconds(n, lines, Station(v as u16), gone, pieces);
+        if is_weak(found) {
+            return found;
+        }
+    }
+    Found::Stands
+}
+
+// Fewer stations than the level, fewest first, with marks of which none is set and a table of n entries to work in.
+fn search(n: usize, level: Level, lines: &[u16], gone: &mut [bool], pieces: &mut [u16]) -> Found
+    requires { ⌜ Sound n (now lines) × (length (now gone) ≡ n) × Unmarked (now gone) × (length (now pieces) ≡ n) ⌝ }
+    ensures found { λ r. ⌜ foundStanding r ≡ weakSpot n (level .0) (now (lines .entry)) ⌝ }
+{
+    let none = try_none(n, lines, gone, pieces);
+    if is_weak(none) {
+        return none;
+    }
+    if level.0 < 2 {
+        return Found::Stands;
+    }
+    let ones = try_ones(n, lines, gone, pieces);
+    if is_weak(ones) {
+        return ones;
+    }
+    if level.0 < 3 {
+        return Found::Stands;
+    }
+    try_twos(n, lines, gone, pieces)
+}
+
+// The search over any sound list, with fresh work arrays.
+fn search_list(n: usize, level: Level, lines: &[u16]) -> Found
+    requires { ⌜ Sound n (now lines) ⌝ }
+    ensures found { λ r. ⌜ foundStanding r ≡ weakSpot n (level .0) (now (lines .entry)) ⌝ }
+{
+    let mut gone = [false; 1024];
+    let mut pieces = [0u16; 1024];
+    search(n, level, lines, &mut gone[..n], &mut pieces[..n])
+}
+
+// The search over the lines that pruning keeps: what is taken away there parts the same stations. Neither pruning nor copying
+// refuses here, since the list is sound, the starts are stations and the buffers have room.
+fn search_kept(
+    n: usize,
+    level: Level,
+    lines: &[u16],
+    starts: &[u16],
+    ranks: &mut [u8],
+    orders: &mut [u16],
+    kept: &mut [u16],
+) -> Found
+    requires { ⌜ Sound n (now lines) × (1 ≤ level .0) × (level .0 ≤ 3) × (length (now starts) ≡ level .0) × StartsIn n (level .0) (now starts) × (length (now ranks) ≡ 8192) × (length (now orders) ≡ 3072) × (length (now kept) ≡ 16384) ⌝ }
+    ensures found { λ r. ⌜ foundStanding r ≡ weakSpot n (level .0) (now (lines .entry)) ⌝ }
+{
+    prune(n, level, lines, starts, ranks, orders);
+    let count = lines.len() / 2;
+    copy_kept(lines, &ranks[..count], kept);
+    let size = 2 * count_kept(&ranks[..count]);
+    search_list(n, level, &kept[..size])
+}
+
+// The search over a network that is not refused, pruned from station 0 in every round, with fresh buffers.
+fn search_network(n: usize, level: Level, lines: &[u16]) -> Found
+    requires { ⌜ Sound n (now lines) × (1 ≤ level .0) × (level .0 ≤ 3) ⌝ }
+    ensures found { λ r. ⌜ foundStanding r ≡ weakSpot n (level .0) (now (lines .entry)) ⌝ }
+{
+    let starts = [0u16; 3];
+    let mut ranks = [0u8; 8192];
+    let mut orders = [0u16; 3072];
+    let mut kept = [0u16; 16384];
+    let k = level.0;
+    search_kept(
+        n,
+        level,
+        lines,
+        &starts[..k],
+        &mut ranks,
+        &mut orders,
+        &mut kept,
+    )
+}
+
+// Refusal 12: the level is not 1 to 3.
+fn judge_weak_level(level: Level) -> Judged
+    ensures answer { λ r. ⌜ judgedAnswer r ≡ weakLevelJudged (level .0) ⌝ }
+{
+    let k = level.0;
+    if k < 1 {
+        return Judged::Refused(Refusal::WeakLevel);
+    }
+    if 3 < k {
+        return Judged::Refused(Refusal::WeakLevel);
+    }
+    Judged::Taken
+}
+
+// The judge of a search for a weak spot: 1, 2, 12, lines.
+fn judge_weak(n: usize, level: Level, lines: &[u16]) -> Judged
+    ensures answer { λ r. ⌜ judgedAnswer r ≡ weakJudged n (level .0) (now (lines .entry)) ⌝ }
+{
+    let stations = judge_stations(n);
+    if is_refused(stations) {
+        return stations;
+    }
+    let length = judge_length(LineList::Only, lines);
+    if is_refused(length) {
+        return length;
+    }
+    let levels = judge_weak_level(level);
+    if is_refused(levels) {
+        return levels;
+    }
+    judge_list(LineList::Only, n, lines)
+}
+
+// The weak spot of a network at a level from 1 to 3: the fewest stations, fewer than the level, that part two others; or that it stands.
+pub fn find_weak_spot(n: usize, level: Level, lines: &[u16]) -> Searched
+    ensures answer { λ r. ⌜ searchedAnswer r ≡ weakAnswer n (level .0) (now (lines .entry)) ⌝ }
+{
+    let judged = judge_weak(n, level, lines);
+    if let Judged::Refused(refusal) = judged {
+        return Searched::Refused(refusal);
+    }
+    Searched::Decided(search_network(n, level, lines))
 }
