@@ -7,6 +7,9 @@ use prune::prune;
 use report::Written;
 use report::write_kept;
 use report::write_refused;
+use report::write_standing;
+use weakness::Searched;
+use weakness::find_weak_spot;
 ghost use mathlib.Core.Path.{_≡_};
 ghost use mathlib.Core.List.{_++_};
 ghost use mathlib.Core.Bool.{true, false};
@@ -14,7 +17,9 @@ ghost use Prim.Native.Nat.{_+_, _*_, _/_, _≤_, _<_};
 ghost use lib.ListN.{length, drop};
 ghost use lib.Dec.{ltb};
 ghost use Rattle.report.specs.Answers.{writtenAnswer, writtenOver};
+ghost use Rattle.weakness.specs.Standing.{weakAnswer};
 ghost use Rattle.programs.specs.Keep.{networkText, keepOutput};
+ghost use Rattle.programs.specs.Weak.{searchedText, weakOutput};
 
 // Prunes a network and writes what is kept, or why it is refused.
 fn keep_network(
@@ -92,4 +97,52 @@ pub fn keep_text(bytes: &[u8], text: &mut [u8]) -> Written
         &mut orders,
         text,
     )
+}
+
+// Searches a network for a weak spot and writes what is found, or why it is refused.
+fn weak_network(n: usize, level: Level, count: usize, lines: &[u16], text: &mut [u8]) -> Written
+    requires { ⌜ 256 ≤ length (now text) ⌝ }
+    ensures answer { λ r. ⌜ r ≡ writtenAnswer false (searchedText n (level .0) count (weakAnswer n (level .0) (now (lines .entry)))) ⌝ }
+    ensures text { λ _. ⌜ now (text .exit) ≡ writtenOver false (searchedText n (level .0) count (weakAnswer n (level .0) (now (lines .entry)))) (now (text .entry)) ⌝ }
+{
+    let searched = find_weak_spot(n, level, lines);
+    match searched {
+        Searched::Decided(found) => write_standing(n, level, count, found, text),
+        Searched::Refused(refusal) => write_refused(refusal, text),
+    }
+}
+
+// Reads a file and writes what weak says of it, with buffers to read into.
+fn weak_file(bytes: &[u8], lines: &mut [u16], starts: &mut [u16], text: &mut [u8]) -> Written
+    requires { ⌜ (length (now lines) ≡ 16384) × (length (now starts) ≡ 16) × (256 ≤ length (now text)) ⌝ }
+    ensures answer { λ r. ⌜ r ≡ writtenAnswer false (weakOutput (now (bytes .entry))) ⌝ }
+    ensures text { λ _. ⌜ now (text .exit) ≡ writtenOver false (weakOutput (now (bytes .entry))) (now (text .entry)) ⌝ }
+{
+    let reading = read(bytes, lines, starts);
+    match reading {
+        Reading::Network(found) => {
+            let size = 2 * found.lines;
+            weak_network(
+                found.stations,
+                found.level,
+                found.lines,
+                &lines[..size],
+                text,
+            )
+        }
+        Reading::Refused(refusal) => write_refused(refusal, text),
+    }
+}
+
+// What the program weak writes of the bytes of a file, from the front of `text`, which needs 256 bytes.
+pub fn weak_text(bytes: &[u8], text: &mut [u8]) -> Written
+    ensures answer { λ r. ⌜ r ≡ writtenAnswer (ltb (length (now (text .entry))) 256) (weakOutput (now (bytes .entry))) ⌝ }
+    ensures text { λ _. ⌜ now (text .exit) ≡ writtenOver (ltb (length (now (text .entry))) 256) (weakOutput (now (bytes .entry))) (now (text .entry)) ⌝ }
+{
+    if text.len() < 256 {
+        return Written::TooShort;
+    }
+    let mut lines = [0u16; 16384];
+    let mut starts = [0u16; 16];
+    weak_file(bytes, &mut lines, &mut starts, text)
 }

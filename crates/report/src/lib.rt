@@ -1,4 +1,6 @@
-// The text that the program keep writes: of a pruned network, or of a refused input.
+// The text that the programs write: of a pruned network, of a network's weak spot, or of a refused input.
+mod standing; // standing.rt: whether a network stands, put into a text
+
 use kinds::Level;
 use kinds::Place;
 use kinds::Refusal;
@@ -10,14 +12,18 @@ use kinds::place_of;
 use network::Line;
 use network::line_at;
 use network::rank_at;
+use standing::put_standing;
+use standing::put_weak_header;
+use weakness::Found;
 ghost use Prim.Native.Nat.{_+_, _*_, _/_, _≤_, _<_};
 ghost use mathlib.Core.Path.{_≡_};
 ghost use mathlib.Core.List.{[], _∷_};
 ghost use lib.ListN.{length, getD};
 ghost use Rattle.kinds.specs.Refusals.{numberOf, placeOf};
-ghost use Rattle.report.specs.Answers.{keepShort, refusedShort, writtenAnswer, writtenOver};
-ghost use Rattle.report.specs.Text.{decimal, field, stationsText, levelText, linesText, keptCountText, roundText, placeText, fromText, toText, refusedNumberText, atText, newline, headerText, lineText, rowText, keptText, keepText, refusedText};
+ghost use Rattle.report.specs.Answers.{keepShort, refusedShort, weakShort, writtenAnswer, writtenOver};
+ghost use Rattle.report.specs.Text.{decimal, field, stationsText, levelText, linesText, keptCountText, roundText, placeText, fromText, toText, refusedNumberText, atText, newline, headerText, lineText, rowText, keptText, keepText, refusedText, weakText};
 ghost use Rattle.report.specs.Writing.{Puts};
+ghost use Rattle.weakness.specs.Answers.{foundStanding};
 
 // What writing says: how many bytes were written, or that the buffer has too little room and is as it was.
 pub enum Written {
@@ -260,5 +266,25 @@ pub fn write_refused(refusal: Refusal, text: &mut [u8]) -> Written
     let number = number_of(refusal) as usize;
     let place = place_of(refusal);
     let end = put_refusal(text, number, place);
+    Written::Bytes(end)
+}
+
+// Writes what weak writes of a network with `count` lines, from the front of `text`. It is TooShort, and nothing changes, where `text` has less
+// than 256 bytes.
+pub fn write_standing(
+    n: usize,
+    level: Level,
+    count: usize,
+    found: Found,
+    text: &mut [u8],
+) -> Written
+    ensures answer { λ r. ⌜ r ≡ writtenAnswer (weakShort (length (now (text .entry)))) (weakText n (level .0) count (foundStanding found)) ⌝ }
+    ensures text { λ _. ⌜ now (text .exit) ≡ writtenOver (weakShort (length (now (text .entry)))) (weakText n (level .0) count (foundStanding found)) (now (text .entry)) ⌝ }
+{
+    if text.len() < 256 {
+        return Written::TooShort;
+    }
+    let at = put_weak_header(text, n, level, count);
+    let end = put_standing(text, at, found);
     Written::Bytes(end)
 }
