@@ -10,7 +10,7 @@ use mathlib.Core.Path.{_≡_, refl, sym, _∙_}
 use mathlib.Core.Bool.{Bool, true, false, not, _||_, true≢false}
 use mathlib.Core.List.{[], _∷_}
 use mathlib.Core.Logic.{_⊎_, _⊎_.inl, _⊎_.inr}
-use native.Mathlib.Decide.{ℕ-discrete}
+use native.Mathlib.Decide.{ℕ-discrete, decLt}
 use native.Mathlib.Omega.{arith}
 use borrow.Author.Tests.{ne-eqb, not-true}
 use lib.Dec.{eqb}
@@ -37,19 +37,12 @@ lowest-remains n away v s = go (first-cases (λ u. not (away u)) (λ u. u) n 0 n
         rw (r .is)
         (record {
           remains = record { station = omega (arith, r .below); stays = not-true (away (r .place)) (r .passes) };
-          lowest = λ u t. least u t (r .place) (λ j l. r .earlier j (omega arith) l);
+          lowest = λ u t. least u t (decLt u (r .place));
         })
       where
-        least : (u : ℕ) → Remains n away u → (p : ℕ) → ((j : ℕ) → j < p → not (away j) ≡ false) → p ≤ u
-        least u t p h = at (ℕ-discrete (u + 1) (u + 1)) p h
-          where
-            at : Dec (u + 1 ≡ u + 1) → (q : ℕ) → ((j : ℕ) → j < q → not (away j) ≡ false) → q ≤ u
-            at d zero g = omega arith
-            at d (suc q) g = by (ℕ-discrete q u) (at d q (λ j l. g j (omega arith)))
-              where
-                by : Dec (q ≡ u) → q ≤ u → suc q ≤ u
-                by (yes e) l = absurd (true≢false (sym (rw (t .stays)) ∙ g u (omega arith)))
-                by (no m) l = omega arith
+        least : (u : ℕ) → Remains n away u → Dec (u < r .place) → r .place ≤ u
+        least u t (yes l) = absurd (true≢false (sym (rw (t .stays)) ∙ r .earlier u (omega arith) l))
+        least u t (no m) = omega arith
     go (inr r) = absurd (true≢false (sym (rw (s .stays)) ∙ r .none v (omega arith) (omega (arith, s .station))))
 
 -- ── how few are taken away ──
