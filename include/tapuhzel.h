@@ -33,4 +33,20 @@ uint8_t tapuhzel_check(size_t n, size_t level, const uint16_t *lines, size_t lin
                        size_t ranks_len, const uint16_t *orders, size_t orders_len, uint8_t *kind, uint8_t *round,
                        size_t *at, size_t *place, uint8_t *list);
 
+/* Copies the kept lines, those whose rank is not 0, to the front of room in list order; *count is how many lines that
+ * are, 0 where the call is refused. Refusals 2, then 5 (ranks shorter than the lines, or too little room). */
+uint8_t tapuhzel_copy(const uint16_t *lines, size_t lines_len, const uint8_t *ranks, size_t ranks_len, uint16_t *room,
+                      size_t room_len, size_t *count, size_t *place, uint8_t *list);
+
+/* Unites two lists over n stations at the front of room: the first, then those lines of the second that the first
+ * lacks; *count is how many lines the union has, 0 where the call is refused. Refusals 1; 2 for each list; lines of the
+ * first, then of the second; 13; 5. *list says which list 2, 6, 7 and 8 speak of. */
+uint8_t tapuhzel_unite(size_t n, const uint16_t *first, size_t first_len, const uint16_t *second, size_t second_len,
+                       uint16_t *room, size_t room_len, size_t *count, size_t *place, uint8_t *list);
+
+/* Whether stations one and two are joined when those of a strictly rising list are taken away: *joined is 1 or 0, and 0
+ * where the call is refused. Refusals 1, 2, lines, 10 (place: its index), 11 (place: 0 for one, 1 for two). */
+uint8_t tapuhzel_joined(size_t n, const uint16_t *lines, size_t lines_len, const uint16_t *away, size_t away_len,
+                        uint16_t one, uint16_t two, uint8_t *joined, size_t *place, uint8_t *list);
+
 #endif

@@ -34,6 +34,44 @@ extern "C" {
         place: *mut usize,
         list: *mut u8,
     ) -> u8;
+    #[allow(clippy::too_many_arguments)]
+    fn tapuhzel_copy(
+        lines: *const u16,
+        lines_len: usize,
+        ranks: *const u8,
+        ranks_len: usize,
+        room: *mut u16,
+        room_len: usize,
+        count: *mut usize,
+        place: *mut usize,
+        list: *mut u8,
+    ) -> u8;
+    #[allow(clippy::too_many_arguments)]
+    fn tapuhzel_unite(
+        n: usize,
+        first: *const u16,
+        first_len: usize,
+        second: *const u16,
+        second_len: usize,
+        room: *mut u16,
+        room_len: usize,
+        count: *mut usize,
+        place: *mut usize,
+        list: *mut u8,
+    ) -> u8;
+    #[allow(clippy::too_many_arguments)]
+    fn tapuhzel_joined(
+        n: usize,
+        lines: *const u16,
+        lines_len: usize,
+        away: *const u16,
+        away_len: usize,
+        one: u16,
+        two: u16,
+        joined: *mut u8,
+        place: *mut usize,
+        list: *mut u8,
+    ) -> u8;
 }
 
 /// A routine's number, place and list, as `include/tapuhzel.h` encodes them.
@@ -106,4 +144,63 @@ pub(crate) fn check(n: usize, level: usize, lines: &[u16], ranks: &[u8], orders:
         )
     };
     (found, Said { number, place, list })
+}
+
+pub(crate) fn copy(lines: &[u16], ranks: &[u8], room: &mut [u16]) -> (usize, Said) {
+    let (mut count, mut place, mut list) = (0, 0, 0);
+    // SAFETY: each pointer and length are of one live slice; the slices and the three results are apart from each other.
+    let number = unsafe {
+        tapuhzel_copy(
+            lines.as_ptr(),
+            lines.len(),
+            ranks.as_ptr(),
+            ranks.len(),
+            room.as_mut_ptr(),
+            room.len(),
+            &mut count,
+            &mut place,
+            &mut list,
+        )
+    };
+    (count, Said { number, place, list })
+}
+
+pub(crate) fn unite(n: usize, first: &[u16], second: &[u16], room: &mut [u16]) -> (usize, Said) {
+    let (mut count, mut place, mut list) = (0, 0, 0);
+    // SAFETY: each pointer and length are of one live slice; `room` and the three results are apart from all others.
+    let number = unsafe {
+        tapuhzel_unite(
+            n,
+            first.as_ptr(),
+            first.len(),
+            second.as_ptr(),
+            second.len(),
+            room.as_mut_ptr(),
+            room.len(),
+            &mut count,
+            &mut place,
+            &mut list,
+        )
+    };
+    (count, Said { number, place, list })
+}
+
+pub(crate) fn joined(n: usize, lines: &[u16], away: &[u16], one: u16, two: u16) -> (bool, Said) {
+    let (mut joined, mut place, mut list) = (0, 0, 0);
+    // SAFETY: each pointer and length are of one live slice that the call only reads; the three results are live and apart.
+    let number = unsafe {
+        tapuhzel_joined(
+            n,
+            lines.as_ptr(),
+            lines.len(),
+            away.as_ptr(),
+            away.len(),
+            one,
+            two,
+            &mut joined,
+            &mut place,
+            &mut list,
+        )
+    };
+    (joined == 1, Said { number, place, list })
 }

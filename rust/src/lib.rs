@@ -51,13 +51,28 @@ pub enum Verdict {
     Faulty(Fault),
 }
 
+/// Which line list a refusal speaks of: the only one, or the first or the second of a union.
+#[derive(Clone, Copy, Debug, PartialEq, Eq)]
+pub enum LineList {
+    Only,
+    First,
+    Second,
+}
+
+/// Which of the two stations that were asked about.
+#[derive(Clone, Copy, Debug, PartialEq, Eq)]
+pub enum Asked {
+    First,
+    Second,
+}
+
 /// Why an input is refused, and where.
 #[derive(Clone, Copy, Debug, PartialEq, Eq)]
 pub enum Refusal {
     /// 1: n is not 1 to 1,024.
     StationCount,
     /// 2: the line list has an odd length or over 16,384 numbers.
-    LineCount,
+    LineCount(LineList),
     /// 3: k is not 1 to 16.
     LevelRange,
     /// 4: the number of starting stations is not k.
@@ -65,13 +80,19 @@ pub enum Refusal {
     /// 5: a lent buffer is shorter than needed.
     Room,
     /// 6: a line end is n or more.
-    EndOutside(Place),
+    EndOutside(LineList, Place),
     /// 7: a line's ends are equal.
-    EndsEqual(Place),
+    EndsEqual(LineList, Place),
     /// 8: the same two ends, either way round, stood earlier.
-    StoodEarlier(Place),
+    StoodEarlier(LineList, Place),
     /// 9: a starting station is n or more.
     StartOutside(Round),
+    /// 10: the taken-away list is not strictly rising, or has a number n or more.
+    TakenAway(Position),
+    /// 11: an asked station is n or more, or taken away.
+    AskedStation(Asked),
+    /// 13: the union has over 8,192 lines.
+    UnionCount,
 }
 
 impl Refusal {
@@ -79,22 +100,35 @@ impl Refusal {
     pub fn number(self) -> u8 {
         match self {
             Refusal::StationCount => 1,
-            Refusal::LineCount => 2,
+            Refusal::LineCount(_) => 2,
             Refusal::LevelRange => 3,
             Refusal::StartCount => 4,
             Refusal::Room => 5,
-            Refusal::EndOutside(_) => 6,
-            Refusal::EndsEqual(_) => 7,
-            Refusal::StoodEarlier(_) => 8,
+            Refusal::EndOutside(..) => 6,
+            Refusal::EndsEqual(..) => 7,
+            Refusal::StoodEarlier(..) => 8,
             Refusal::StartOutside(_) => 9,
+            Refusal::TakenAway(_) => 10,
+            Refusal::AskedStation(_) => 11,
+            Refusal::UnionCount => 13,
         }
     }
 
-    /// The place that the document gives with the number: a line's place or a round, else 0.
+    /// The place that the document gives with the number: a line's place, a round or an index, else 0.
     pub fn place(self) -> usize {
         match self {
-            Refusal::EndOutside(Place(place)) | Refusal::EndsEqual(Place(place)) | Refusal::StoodEarlier(Place(place)) => place.into(),
+            Refusal::EndOutside(_, Place(place)) | Refusal::EndsEqual(_, Place(place)) | Refusal::StoodEarlier(_, Place(place)) => place.into(),
             Refusal::StartOutside(Round(round)) => round.into(),
+            Refusal::TakenAway(Position(position)) => position.into(),
+            Refusal::AskedStation(Asked::Second) => 1,
+            _ => 0,
+        }
+    }
+
+    /// The number of the list that the refusal speaks of: 1 or 2 of a union, else 0.
+    pub fn list(self) -> u8 {
+        match self {
+            Refusal::LineCount(list) | Refusal::EndOutside(list, _) | Refusal::EndsEqual(list, _) | Refusal::StoodEarlier(list, _) => list as u8,
             _ => 0,
         }
     }
@@ -103,26 +137,35 @@ impl Refusal {
 /// The refusal of a number, a place and a list, as the routines here give them.
 fn refusal(said: ffi::Said) -> Refusal {
     let place = Place(said.place as u16);
-    match (said.number, said.list) {
-        (1, 0) => Refusal::StationCount,
-        (2, 0) => Refusal::LineCount,
-        (3, 0) => Refusal::LevelRange,
-        (4, 0) => Refusal::StartCount,
-        (5, 0) => Refusal::Room,
-        (6, 0) => Refusal::EndOutside(place),
-        (7, 0) => Refusal::EndsEqual(place),
-        (8, 0) => Refusal::StoodEarlier(place),
-        (9, 0) => Refusal::StartOutside(Round(said.place as u8)),
-        (number, list) => unreachable!("no routine here refuses by {number} (list {list})"),
+    let list = match said.list {
+        0 => LineList::Only,
+        1 => LineList::First,
+        2 => LineList::Second,
+        list => unreachable!("no routine here speaks of a list {list}"),
+    };
+    match said.number {
+        1 => Refusal::StationCount,
+        2 => Refusal::LineCount(list),
+        3 => Refusal::LevelRange,
+        4 => Refusal::StartCount,
+        5 => Refusal::Room,
+        6 => Refusal::EndOutside(list, place),
+        7 => Refusal::EndsEqual(list, place),
+        8 => Refusal::StoodEarlier(list, place),
+        9 => Refusal::StartOutside(Round(said.place as u8)),
+        10 => Refusal::TakenAway(Position(said.place as u16)),
+        11 => Refusal::AskedStation(if said.place == 0 { Asked::First } else { Asked::Second }),
+        13 => Refusal::UnionCount,
+        number => unreachable!("no routine here refuses by {number}"),
     }
 }
 
 /// Whether a network of `n` stations and a flat list of line ends is taken.
 ///
 /// ```
-/// use tapuhzel::{judge, Place, Refusal};
+/// use tapuhzel::{judge, LineList, Place, Refusal};
 /// assert_eq!(judge(3, &[0, 1, 1, 2]), Ok(()));
-/// assert_eq!(judge(2, &[0, 1, 1, 0]), Err(Refusal::StoodEarlier(Place(1))));
+/// assert_eq!(judge(2, &[0, 1, 1, 0]), Err(Refusal::StoodEarlier(LineList::Only, Place(1))));
 /// ```
 pub fn judge(n: usize, lines: &[u16]) -> Result<(), Refusal> {
     let said = ffi::judge(n, lines);
@@ -171,4 +214,40 @@ fn verdict(found: ffi::Found) -> Verdict {
 pub fn check(n: usize, level: usize, lines: &[u16], ranks: &[u8], orders: &[u16]) -> Result<Verdict, Refusal> {
     let (found, said) = ffi::check(n, level, lines, ranks, orders);
     if said.number == 0 { Ok(verdict(found)) } else { Err(refusal(said)) }
+}
+
+/// Copies the kept lines, those of nonzero rank, to the front of `room`, and says how many lines that are.
+///
+/// ```
+/// let mut room = [9; 6];
+/// assert_eq!(tapuhzel::copy(&[0, 1, 0, 2, 1, 2], &[1, 0, 2], &mut room), Ok(2));
+/// assert_eq!(room, [0, 1, 1, 2, 9, 9]);
+/// ```
+pub fn copy(lines: &[u16], ranks: &[u8], room: &mut [u16]) -> Result<usize, Refusal> {
+    let (count, said) = ffi::copy(lines, ranks, room);
+    if said.number == 0 { Ok(count) } else { Err(refusal(said)) }
+}
+
+/// Unites two lists over `n` stations in `room`, and says how many lines the union has.
+///
+/// ```
+/// let mut room = [0; 6];
+/// assert_eq!(tapuhzel::unite(3, &[0, 1, 1, 2], &[2, 1, 0, 2], &mut room), Ok(3));
+/// assert_eq!(room, [0, 1, 1, 2, 0, 2]);
+/// ```
+pub fn unite(n: usize, first: &[u16], second: &[u16], room: &mut [u16]) -> Result<usize, Refusal> {
+    let (count, said) = ffi::unite(n, first, second, room);
+    if said.number == 0 { Ok(count) } else { Err(refusal(said)) }
+}
+
+/// Whether two stations are joined when those of a strictly rising list are taken away.
+///
+/// ```
+/// use tapuhzel::{joined, Station};
+/// assert_eq!(joined(3, &[0, 1, 1, 2], &[], Station(0), Station(2)), Ok(true));
+/// assert_eq!(joined(3, &[0, 1, 1, 2], &[1], Station(0), Station(2)), Ok(false));
+/// ```
+pub fn joined(n: usize, lines: &[u16], away: &[u16], one: Station, two: Station) -> Result<bool, Refusal> {
+    let (joined, said) = ffi::joined(n, lines, away, one.0, two.0);
+    if said.number == 0 { Ok(joined) } else { Err(refusal(said)) }
 }

@@ -1,6 +1,6 @@
 //! The limits of the document's last example: what is taken at the limit is refused one past it.
 
-use tapuhzel::{prune, Refusal};
+use tapuhzel::{LineList, prune, Refusal};
 
 /// Prunes a path of stations at a level, every round from station 0.
 fn prune_path(stations: usize, level: usize) -> Result<usize, Refusal> {
@@ -31,14 +31,14 @@ fn lines() {
     let mut ranks = vec![0; 8_193];
     let mut orders = vec![0; 1_024];
     assert_eq!(prune(1_024, 1, &lines[..16_384], &[0], &mut ranks, &mut orders), Ok(1_023));
-    assert_eq!(prune(1_024, 1, &lines, &[0], &mut ranks, &mut orders), Err(Refusal::LineCount));
-    assert_eq!(prune(1_024, 1, &lines[..3], &[0], &mut ranks, &mut orders), Err(Refusal::LineCount));
+    assert_eq!(prune(1_024, 1, &lines, &[0], &mut ranks, &mut orders), Err(Refusal::LineCount(LineList::Only)));
+    assert_eq!(prune(1_024, 1, &lines[..3], &[0], &mut ranks, &mut orders), Err(Refusal::LineCount(LineList::Only)));
 }
 
 #[test]
 fn a_refused_call_changes_nothing() {
     let mut ranks = [7; 3];
     let mut orders = [9; 4];
-    assert_eq!(prune(4, 1, &[0, 1, 1, 2, 2, 4], &[0], &mut ranks, &mut orders), Err(Refusal::EndOutside(tapuhzel::Place(2))));
+    assert_eq!(prune(4, 1, &[0, 1, 1, 2, 2, 4], &[0], &mut ranks, &mut orders), Err(Refusal::EndOutside(LineList::Only, tapuhzel::Place(2))));
     assert_eq!((ranks, orders), ([7; 3], [9; 4]));
 }

@@ -63,6 +63,11 @@ pub fn proved() -> Program {
             tapuhzel::prune(n, level, lines, starts, ranks, orders).map_err(numbers)
         }),
         check: Some(|n, level, lines, ranks, orders| tapuhzel::check(n, level, lines, ranks, orders).map(verdict).map_err(numbers)),
+        copy: Some(|lines, ranks, room| tapuhzel::copy(lines, ranks, room).map_err(numbers)),
+        unite: Some(|n, first, second, room| tapuhzel::unite(n, first, second, room).map_err(numbers)),
+        joined: Some(|n, lines, away, a, b| {
+            tapuhzel::joined(n, lines, away, tapuhzel::Station(a.0), tapuhzel::Station(b.0)).map_err(numbers)
+        }),
         ..Program::default()
     }
 }
@@ -82,9 +87,9 @@ fn verdict(verdict: tapuhzel::Verdict) -> Verdict {
     Verdict::Faulty(Fault { round: Round(fault.round.0), kind })
 }
 
-/// A refusal of the proved program by its numbers; no routine so far says a list.
+/// A refusal of the proved program by its numbers.
 fn numbers(refusal: tapuhzel::Refusal) -> Refusal {
-    Refusal::at(refusal.number(), refusal.place())
+    Refusal::at(refusal.number(), refusal.place()).in_list(refusal.list())
 }
 
 /// What a call answered, and what it left in the buffers that it may write to.
