@@ -81,20 +81,23 @@ pub(crate) struct Said {
     pub list: u8,
 }
 
-pub(crate) fn judge(n: usize, lines: &[u16]) -> Said {
-    let mut place = 0;
-    let mut list = 0;
-    // SAFETY: the pointer and the length are of one live slice; the two results are live and apart from it.
-    let number = unsafe { tapuhzel_judge(n, lines.as_ptr(), lines.len(), &mut place, &mut list) };
+/// What a call says, given where it may write its place and its list.
+fn said(call: impl FnOnce(&mut usize, &mut u8) -> u8) -> Said {
+    let (mut place, mut list) = (0, 0);
+    let number = call(&mut place, &mut list);
     Said { number, place, list }
+}
+
+// SAFETY of every call below: each pointer and length are of one live slice, lent for the call alone; the slices that a call
+// may write to and its results are live and apart from all else that it is given.
+
+pub(crate) fn judge(n: usize, lines: &[u16]) -> Said {
+    said(|place, list| unsafe { tapuhzel_judge(n, lines.as_ptr(), lines.len(), place, list) })
 }
 
 pub(crate) fn prune(n: usize, level: usize, lines: &[u16], starts: &[u16], ranks: &mut [u8], orders: &mut [u16]) -> (usize, Said) {
     let mut kept = 0;
-    let mut place = 0;
-    let mut list = 0;
-    // SAFETY: each pointer and length are of one live slice; the slices and the three results are apart from each other.
-    let number = unsafe {
+    let said = said(|place, list| unsafe {
         tapuhzel_prune(
             n,
             level,
@@ -107,11 +110,11 @@ pub(crate) fn prune(n: usize, level: usize, lines: &[u16], starts: &[u16], ranks
             orders.as_mut_ptr(),
             orders.len(),
             &mut kept,
-            &mut place,
-            &mut list,
+            place,
+            list,
         )
-    };
-    (kept, Said { number, place, list })
+    });
+    (kept, said)
 }
 
 /// What the check found: the kind of its fault, 1 for A to 5 for E, 0 for none; its round; its own place.
@@ -122,11 +125,8 @@ pub(crate) struct Found {
 }
 
 pub(crate) fn check(n: usize, level: usize, lines: &[u16], ranks: &[u8], orders: &[u16]) -> (Found, Said) {
-    let mut found = Found { kind: 0, round: 0, at: 0 };
-    let mut place = 0;
-    let mut list = 0;
-    // SAFETY: each pointer and length are of one live slice that the call only reads; the five results are live and apart.
-    let number = unsafe {
+    let (mut kind, mut round, mut at) = (0, 0, 0);
+    let said = said(|place, list| unsafe {
         tapuhzel_check(
             n,
             level,
@@ -136,71 +136,34 @@ pub(crate) fn check(n: usize, level: usize, lines: &[u16], ranks: &[u8], orders:
             ranks.len(),
             orders.as_ptr(),
             orders.len(),
-            &mut found.kind,
-            &mut found.round,
-            &mut found.at,
-            &mut place,
-            &mut list,
+            &mut kind,
+            &mut round,
+            &mut at,
+            place,
+            list,
         )
-    };
-    (found, Said { number, place, list })
+    });
+    (Found { kind, round, at }, said)
 }
 
 pub(crate) fn copy(lines: &[u16], ranks: &[u8], room: &mut [u16]) -> (usize, Said) {
-    let (mut count, mut place, mut list) = (0, 0, 0);
-    // SAFETY: each pointer and length are of one live slice; the slices and the three results are apart from each other.
-    let number = unsafe {
-        tapuhzel_copy(
-            lines.as_ptr(),
-            lines.len(),
-            ranks.as_ptr(),
-            ranks.len(),
-            room.as_mut_ptr(),
-            room.len(),
-            &mut count,
-            &mut place,
-            &mut list,
-        )
-    };
-    (count, Said { number, place, list })
+    let mut count = 0;
+    let (from, kept, to) = (lines.as_ptr(), ranks.as_ptr(), room.as_mut_ptr());
+    let said = said(|place, list| unsafe { tapuhzel_copy(from, lines.len(), kept, ranks.len(), to, room.len(), &mut count, place, list) });
+    (count, said)
 }
 
 pub(crate) fn unite(n: usize, first: &[u16], second: &[u16], room: &mut [u16]) -> (usize, Said) {
-    let (mut count, mut place, mut list) = (0, 0, 0);
-    // SAFETY: each pointer and length are of one live slice; `room` and the three results are apart from all others.
-    let number = unsafe {
-        tapuhzel_unite(
-            n,
-            first.as_ptr(),
-            first.len(),
-            second.as_ptr(),
-            second.len(),
-            room.as_mut_ptr(),
-            room.len(),
-            &mut count,
-            &mut place,
-            &mut list,
-        )
-    };
-    (count, Said { number, place, list })
+    let mut count = 0;
+    let (one, two, to) = (first.as_ptr(), second.as_ptr(), room.as_mut_ptr());
+    let said = said(|place, list| unsafe { tapuhzel_unite(n, one, first.len(), two, second.len(), to, room.len(), &mut count, place, list) });
+    (count, said)
 }
 
 pub(crate) fn joined(n: usize, lines: &[u16], away: &[u16], one: u16, two: u16) -> (bool, Said) {
-    let (mut joined, mut place, mut list) = (0, 0, 0);
-    // SAFETY: each pointer and length are of one live slice that the call only reads; the three results are live and apart.
-    let number = unsafe {
-        tapuhzel_joined(
-            n,
-            lines.as_ptr(),
-            lines.len(),
-            away.as_ptr(),
-            away.len(),
-            one,
-            two,
-            &mut joined,
-            &mut place,
-            &mut list,
-        )
-    };
-    (joined == 1, Said { number, place, list })
+    let mut joined = 0;
+    let said = said(|place, list| unsafe {
+        tapuhzel_joined(n, lines.as_ptr(), lines.len(), away.as_ptr(), away.len(), one, two, &mut joined, place, list)
+    });
+    (joined == 1, said)
 }

@@ -160,6 +160,11 @@ fn refusal(said: ffi::Said) -> Refusal {
     }
 }
 
+/// What a routine answers: its value, unless it refused.
+fn answer<T>(value: T, said: ffi::Said) -> Result<T, Refusal> {
+    if said.number == 0 { Ok(value) } else { Err(refusal(said)) }
+}
+
 /// Whether a network of `n` stations and a flat list of line ends is taken.
 ///
 /// ```
@@ -169,7 +174,7 @@ fn refusal(said: ffi::Said) -> Refusal {
 /// ```
 pub fn judge(n: usize, lines: &[u16]) -> Result<(), Refusal> {
     let said = ffi::judge(n, lines);
-    if said.number == 0 { Ok(()) } else { Err(refusal(said)) }
+    answer((), said)
 }
 
 /// Prunes a network of `n` stations at a level, from a starting station for each round: each line's rank goes to `ranks`,
@@ -184,7 +189,7 @@ pub fn judge(n: usize, lines: &[u16]) -> Result<(), Refusal> {
 /// ```
 pub fn prune(n: usize, level: usize, lines: &[u16], starts: &[u16], ranks: &mut [u8], orders: &mut [u16]) -> Result<usize, Refusal> {
     let (kept, said) = ffi::prune(n, level, lines, starts, ranks, orders);
-    if said.number == 0 { Ok(kept) } else { Err(refusal(said)) }
+    answer(kept, said)
 }
 
 /// The verdict of a kind's number, a round and a place.
@@ -213,7 +218,7 @@ fn verdict(found: ffi::Found) -> Verdict {
 /// ```
 pub fn check(n: usize, level: usize, lines: &[u16], ranks: &[u8], orders: &[u16]) -> Result<Verdict, Refusal> {
     let (found, said) = ffi::check(n, level, lines, ranks, orders);
-    if said.number == 0 { Ok(verdict(found)) } else { Err(refusal(said)) }
+    answer(verdict(found), said)
 }
 
 /// Copies the kept lines, those of nonzero rank, to the front of `room`, and says how many lines that are.
@@ -225,7 +230,7 @@ pub fn check(n: usize, level: usize, lines: &[u16], ranks: &[u8], orders: &[u16]
 /// ```
 pub fn copy(lines: &[u16], ranks: &[u8], room: &mut [u16]) -> Result<usize, Refusal> {
     let (count, said) = ffi::copy(lines, ranks, room);
-    if said.number == 0 { Ok(count) } else { Err(refusal(said)) }
+    answer(count, said)
 }
 
 /// Unites two lists over `n` stations in `room`, and says how many lines the union has.
@@ -237,7 +242,7 @@ pub fn copy(lines: &[u16], ranks: &[u8], room: &mut [u16]) -> Result<usize, Refu
 /// ```
 pub fn unite(n: usize, first: &[u16], second: &[u16], room: &mut [u16]) -> Result<usize, Refusal> {
     let (count, said) = ffi::unite(n, first, second, room);
-    if said.number == 0 { Ok(count) } else { Err(refusal(said)) }
+    answer(count, said)
 }
 
 /// Whether two stations are joined when those of a strictly rising list are taken away.
@@ -249,5 +254,5 @@ pub fn unite(n: usize, first: &[u16], second: &[u16], room: &mut [u16]) -> Resul
 /// ```
 pub fn joined(n: usize, lines: &[u16], away: &[u16], one: Station, two: Station) -> Result<bool, Refusal> {
     let (joined, said) = ffi::joined(n, lines, away, one.0, two.0);
-    if said.number == 0 { Ok(joined) } else { Err(refusal(said)) }
+    answer(joined, said)
 }
