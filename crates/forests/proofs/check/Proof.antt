@@ -9,11 +9,6 @@ use mathlib.Core.Path.{_≡_, sym, ap, _∙_}
 use borrow.Author.Needs.{needs}
 use Rattle.forests.proofs.check.Statement.{statement}
 use Rattle.forests.proofs.check.Tie as tie
-use Rattle.forests.proofs.check.Reads as reads
-use Rattle.forests.proofs.check.Lts as lts
-use Rattle.forests.proofs.check_plan.Reads as check-plan-reads
-use Rattle.forests.proofs.judge_plan.Reads as judge-plan-reads
-use Rattle.request.proofs.is_plan_short.Reads as is-plan-short-reads
 
 is-plan-short-requires : tie.Need-is-plan-short-requires
 is-plan-short-requires c κs = tt

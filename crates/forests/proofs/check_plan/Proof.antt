@@ -7,11 +7,6 @@ use mathlib.Core.Bool.{true, false}
 use mathlib.Core.Path.{_≡_, sym, _∙_}
 use Rattle.forests.proofs.check_plan.Statement.{statement}
 use Rattle.forests.proofs.check_plan.Tie as tie
-use Rattle.forests.proofs.check_plan.Reads as reads
-use Rattle.forests.proofs.check_plan.Lts as lts
-use Rattle.forests.proofs.check_ranks.Reads as check-ranks-reads
-use Rattle.forests.proofs.is_faulty.Reads as is-faulty-reads
-use Rattle.forests.proofs.run_rounds.Reads as run-rounds-reads
 
 check-ranks-requires : tie.Need-check-ranks-requires
 check-ranks-requires c κs = c .before .before .before .pre .0 .within .few

@@ -4,9 +4,6 @@ use borrow.Author.Tests.{lt-ltb, le-ltb}
 use borrow.Author.Needs.{needs}
 use Rattle.forests.proofs.check_rank.Statement.{statement}
 use Rattle.forests.proofs.check_rank.Tie as tie
-use Rattle.forests.proofs.check_rank.Reads as reads
-use Rattle.forests.proofs.check_rank.Lts as lts
-use Rattle.network.proofs.rank_at.Reads as rank-at-reads
 
 rank-at-requires : tie.Need-rank-at-requires
 rank-at-requires c κs = search needs

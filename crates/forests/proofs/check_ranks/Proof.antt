@@ -12,10 +12,6 @@ use borrow.Author.Needs.{needs}
 use native.Mathlib.Omega.{arith}
 use Rattle.forests.proofs.check_ranks.Statement.{statement}
 use Rattle.forests.proofs.check_ranks.Tie as tie
-use Rattle.forests.proofs.check_ranks.Reads as reads
-use Rattle.forests.proofs.check_ranks.Lts as lts
-use Rattle.forests.proofs.check_rank.Reads as check-rank-reads
-use Rattle.forests.proofs.is_faulty.Reads as is-faulty-reads
 
 abbrev Inv-loop : tie.InvT-loop
 Inv-loop level lines ranks count p₀ p = (p ≤ count) × (ranksVerdict (level .0) lines ranks ≡ firstFrom isFaulty (rankVerdict (level .0) ranks) accepted p (count - p))

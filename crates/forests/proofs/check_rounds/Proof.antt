@@ -16,10 +16,6 @@ use borrow.Author.Needs.{needs}
 use native.Mathlib.Omega.{arith}
 use Rattle.forests.proofs.check_rounds.Statement.{statement}
 use Rattle.forests.proofs.check_rounds.Tie as tie
-use Rattle.forests.proofs.check_rounds.Reads as reads
-use Rattle.forests.proofs.check_rounds.Lts as lts
-use Rattle.forests.proofs.check_round.Reads as check-round-reads
-use Rattle.forests.proofs.is_faulty.Reads as is-faulty-reads
 
 abbrev Inv-loop : tie.InvT-loop
 Inv-loop n lines ranks orders positions₀ earliest₀ parents₀ others₀ trees₀ k at₀ i₀ positions earliest parents others trees at i =

@@ -11,14 +11,6 @@ use mathlib.Core.Path.{_≡_, sym, _∙_}
 use borrow.Author.Needs.{needs}
 use Rattle.forests.proofs.judge_plan.Statement.{statement}
 use Rattle.forests.proofs.judge_plan.Tie as tie
-use Rattle.forests.proofs.judge_plan.Reads as reads
-use Rattle.forests.proofs.judge_plan.Lts as lts
-use Rattle.kinds.proofs.is_refused.Reads as is-refused-reads
-use Rattle.network.proofs.judge_length.Reads as judge-length-reads
-use Rattle.network.proofs.judge_list.Reads as judge-list-reads
-use Rattle.network.proofs.judge_stations.Reads as judge-stations-reads
-use Rattle.request.proofs.judge_level.Reads as judge-level-reads
-use Rattle.request.proofs.judge_room.Reads as judge-room-reads
 
 judge-stations-requires : tie.Need-judge-stations-requires
 judge-stations-requires c κs = search needs

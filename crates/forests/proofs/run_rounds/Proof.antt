@@ -3,9 +3,6 @@ use lib.Seq.{length-take-le}
 use mathlib.Core.Path.{sym}
 use Rattle.forests.proofs.run_rounds.Statement.{statement}
 use Rattle.forests.proofs.run_rounds.Tie as tie
-use Rattle.forests.proofs.run_rounds.Reads as reads
-use Rattle.forests.proofs.run_rounds.Lts as lts
-use Rattle.forests.proofs.check_rounds.Reads as check-rounds-reads
 
 array-borrow-prefix-positions : tie.Need-array-borrow-prefix-positions
 array-borrow-prefix-positions c = c .before .before .before .pre .0 .within .most

@@ -2,10 +2,6 @@
 use borrow.Author.Needs.{needs}
 use Rattle.tapuhzel.proofs.say_verdict.Statement.{statement}
 use Rattle.tapuhzel.proofs.say_verdict.Tie as tie
-use Rattle.tapuhzel.proofs.say_verdict.Reads as reads
-use Rattle.tapuhzel.proofs.say_verdict.Lts as lts
-use Rattle.tapuhzel.proofs.say_accepted.Reads as say-accepted-reads
-use Rattle.tapuhzel.proofs.say_fault.Reads as say-fault-reads
 
 enum-told : tie.Need-enum-told
 enum-told c = search needs

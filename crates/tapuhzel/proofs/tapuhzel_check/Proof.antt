@@ -7,13 +7,6 @@ use mathlib.Core.Path.{_≡_, sym, _∙_}
 use borrow.Author.Needs.{needs}
 use Rattle.tapuhzel.proofs.tapuhzel_check.Statement.{statement}
 use Rattle.tapuhzel.proofs.tapuhzel_check.Tie as tie
-use Rattle.tapuhzel.proofs.tapuhzel_check.Reads as reads
-use Rattle.tapuhzel.proofs.tapuhzel_check.Lts as lts
-use Rattle.forests.proofs.check.Reads as check-reads
-use Rattle.tapuhzel.proofs.say_accepted.Reads as say-accepted-reads
-use Rattle.tapuhzel.proofs.say_refusal.Reads as say-refusal-reads
-use Rattle.tapuhzel.proofs.say_taken.Reads as say-taken-reads
-use Rattle.tapuhzel.proofs.say_verdict.Reads as say-verdict-reads
 
 check-requires : tie.Need-check-requires
 check-requires c κs = search needs

@@ -7,11 +7,6 @@ use mathlib.Core.Path.{_≡_, sym, _∙_}
 use borrow.Author.Needs.{needs}
 use Rattle.tapuhzel.proofs.tapuhzel_copy.Statement.{statement}
 use Rattle.tapuhzel.proofs.tapuhzel_copy.Tie as tie
-use Rattle.tapuhzel.proofs.tapuhzel_copy.Reads as reads
-use Rattle.tapuhzel.proofs.tapuhzel_copy.Lts as lts
-use Rattle.kept.proofs.copy_kept.Reads as copy-kept-reads
-use Rattle.tapuhzel.proofs.say_refusal.Reads as say-refusal-reads
-use Rattle.tapuhzel.proofs.say_taken.Reads as say-taken-reads
 
 copy-kept-requires : tie.Need-copy-kept-requires
 copy-kept-requires c κs = search needs

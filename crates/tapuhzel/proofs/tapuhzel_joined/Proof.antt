@@ -7,11 +7,6 @@ use mathlib.Core.Path.{_≡_, sym, _∙_}
 use borrow.Author.Needs.{needs}
 use Rattle.tapuhzel.proofs.tapuhzel_joined.Statement.{statement}
 use Rattle.tapuhzel.proofs.tapuhzel_joined.Tie as tie
-use Rattle.tapuhzel.proofs.tapuhzel_joined.Reads as reads
-use Rattle.tapuhzel.proofs.tapuhzel_joined.Lts as lts
-use Rattle.joined.proofs.joined.Reads as joined-reads
-use Rattle.tapuhzel.proofs.say_refusal.Reads as say-refusal-reads
-use Rattle.tapuhzel.proofs.say_taken.Reads as say-taken-reads
 
 joined-requires : tie.Need-joined-requires
 joined-requires c κs = search needs

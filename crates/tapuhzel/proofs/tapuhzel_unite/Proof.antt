@@ -7,11 +7,6 @@ use mathlib.Core.Path.{_≡_, sym, _∙_}
 use borrow.Author.Needs.{needs}
 use Rattle.tapuhzel.proofs.tapuhzel_unite.Statement.{statement}
 use Rattle.tapuhzel.proofs.tapuhzel_unite.Tie as tie
-use Rattle.tapuhzel.proofs.tapuhzel_unite.Reads as reads
-use Rattle.tapuhzel.proofs.tapuhzel_unite.Lts as lts
-use Rattle.tapuhzel.proofs.say_refusal.Reads as say-refusal-reads
-use Rattle.tapuhzel.proofs.say_taken.Reads as say-taken-reads
-use Rattle.unite.proofs.unite.Reads as unite-reads
 
 unite-requires : tie.Need-unite-requires
 unite-requires c κs = search needs
