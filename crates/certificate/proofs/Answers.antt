@@ -12,9 +12,9 @@ use Rattle.request.specs.Judging.{planShort, requestJudged}
 use Rattle.request.specs.Requests.{Request}
 use Rattle.request.proofs.Judging.{request-good}
 use Rattle.request.proofs.Room.{room-enough}
-use Rattle.forests.specs.Verdicts.{Verdict}
-use Rattle.forests.specs.Checking.{planVerdict, planJudged, checkAnswer}
-use Rattle.forests.proofs.Judging.{plan-good}
+use Rattle.plans.specs.Verdicts.{Verdict}
+use Rattle.plans.specs.Checking.{planVerdict, planJudged, checkAnswer}
+use Rattle.plans.proofs.Judging.{plan-good}
 use Rattle.kept.specs.Kept.{keptCount, keptLines, after}
 use Rattle.kept.proofs.Copying.{kept-front}
 use Rattle.prune.specs.Pruning.{pruned, pruneAnswer}

@@ -14,7 +14,7 @@ use Rattle.laws.proofs.Fold.{first-all}
 use Rattle.network.specs.Lines.{endOne, endTwo, network, Joins, Joins.forth, Joins.back}
 use Rattle.network.specs.Chains.{Hop, Hop.by, Every}
 use Rattle.network.proofs.Chains.{chain-hop}
-use Rattle.forests.specs.Plans.{PlanMeets}
+use Rattle.plans.specs.Plans.{PlanMeets}
 use Rattle.kept.specs.Kept.{copyLine, keptLines}
 use Rattle.joined.specs.Joined.{Remains, Joined}
 use Rattle.certificate.specs.Alike.{Alike}

@@ -14,8 +14,8 @@ use Rattle.laws.proofs.Decide.{dec-and, dec-or, some-below}
 use Rattle.network.specs.Lines.{Network, Joins, Joins.forth, Joins.back, Simple}
 use Rattle.network.specs.Chains.{Hop, Hop.by, Chain, Chain.here, Chain.step, Every}
 use Rattle.network.proofs.Chains.{joins-back, joins-in, hop-in, chain-join, chain-hop}
-use Rattle.forests.specs.Published.{Arrow, Rooted, Greedy}
-use Rattle.forests.specs.Plans.{InPlay, OfRank}
+use Rattle.plans.specs.Published.{Arrow, Rooted, Greedy}
+use Rattle.plans.specs.Plans.{InPlay, OfRank}
 use Rattle.certificate.proofs.Rounds.{LastArrow, last-arrow, play-joined, arrow-first}
 use Rattle.certificate.proofs.Colours.{Colour, Colour.gone, Colour.near, Colour.far, weight, gone-near, gone-far, near-far, dec-far, flip, flip-near, flip-far, weight-flip, paint, paint-far, paint-near, paint-same, paint-weight, paint-less}
 

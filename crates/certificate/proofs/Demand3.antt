@@ -8,9 +8,9 @@ use lib.ListN.{length}
 use Rattle.kinds.specs.Answers.{Answer.given}
 use Rattle.network.specs.Faults.{Sound}
 use Rattle.network.proofs.Chains.{hop-map}
-use Rattle.forests.specs.Verdicts.{Verdict.accepted}
-use Rattle.forests.specs.Checking.{planVerdict, checkAnswer}
-use Rattle.forests.proofs.Plans.{accepted-meets}
+use Rattle.plans.specs.Verdicts.{Verdict.accepted}
+use Rattle.plans.specs.Checking.{planVerdict, checkAnswer}
+use Rattle.plans.proofs.Plans.{accepted-meets}
 use Rattle.kept.specs.Kept.{keptLines}
 use Rattle.prune.specs.Pruning.{pruned, pruneAnswer}
 use Rattle.unite.specs.Union.{united, unionAnswer}

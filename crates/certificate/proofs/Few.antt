@@ -17,8 +17,8 @@ use Rattle.laws.proofs.Count.{total-le, total-add, bit-most, count-none}
 use Rattle.network.specs.Lines.{Network, network, Joins, Joins.forth, Joins.back, Simple}
 use Rattle.network.specs.Faults.{Sound}
 use Rattle.network.proofs.Chains.{joins-in, joins-back}
-use Rattle.forests.specs.Published.{Greedy}
-use Rattle.forests.specs.Plans.{InPlay, OfRank, PlanMeets}
+use Rattle.plans.specs.Published.{Greedy}
+use Rattle.plans.specs.Plans.{InPlay, OfRank, PlanMeets}
 use Rattle.kept.specs.Kept.{isKept, keptLines, keptOf}
 use Rattle.kept.proofs.Copying.{copy-size}
 use Rattle.laws.proofs.Injections.{count-below}

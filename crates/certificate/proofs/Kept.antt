@@ -17,7 +17,7 @@ use Rattle.network.specs.Chains.{Hop, Hop.by, Every}
 use Rattle.network.specs.Faults.{Sound}
 use Rattle.network.proofs.Chains.{hop-map, chain-map}
 use Rattle.network.proofs.Longer.{Neighbours, neighbours-as, neighbours-none, neighbours-more}
-use Rattle.forests.specs.Plans.{PlanMeets}
+use Rattle.plans.specs.Plans.{PlanMeets}
 use Rattle.kept.specs.Kept.{isKept, copyLine, keptLines}
 use Rattle.kept.proofs.Copying.{copy-size}
 use Rattle.certificate.specs.Alike.{Alike}

@@ -13,14 +13,14 @@ use Rattle.network.specs.Chains.{Hop, Hop.by, Chain, Chain.here, Every}
 use Rattle.network.specs.Faults.{Sound}
 use Rattle.network.specs.Orders.{EachOnce}
 use Rattle.network.proofs.Chains.{hop-back, hop-in, hop-apart, chain-hop, chain-join, chain-back}
-use Rattle.forests.specs.Verdicts.{Verdict.accepted}
-use Rattle.forests.specs.Checking.{positionOf, orderOf, planVerdict}
-use Rattle.forests.specs.Plans.{InPlay, OfRank, PlanMeets}
-use Rattle.forests.specs.Faults.{Beside, Tied, Earliest, StationGood}
-use Rattle.forests.proofs.Hops.{firstBeside, Searched, searched}
-use Rattle.forests.proofs.Orders.{order-position, position-below, position-one}
-use Rattle.forests.proofs.Greedy.{RoundGood, good-meets}
-use Rattle.forests.proofs.Plans.{meets-accepted}
+use Rattle.plans.specs.Verdicts.{Verdict.accepted}
+use Rattle.plans.specs.Checking.{positionOf, orderOf, planVerdict}
+use Rattle.plans.specs.Plans.{InPlay, OfRank, PlanMeets}
+use Rattle.plans.specs.Faults.{Beside, Tied, Earliest, StationGood}
+use Rattle.plans.proofs.Hops.{firstBeside, Searched, searched}
+use Rattle.plans.proofs.Orders.{order-position, position-below, position-one}
+use Rattle.plans.proofs.Greedy.{RoundGood, good-meets}
+use Rattle.plans.proofs.Plans.{meets-accepted}
 use Rattle.prune.specs.Pruning.{pruned}
 use Rattle.prune.proofs.Plans.{pruned-ranks, pruned-orders}
 use Rattle.prune.proofs.RoundsFirst.{RoundLeads, RoundNeighbour, RoundFirst, pruned-first}

@@ -7,7 +7,7 @@ use native.Mathlib.Omega.{arith}
 use Rattle.network.specs.Lines.{Network, Joins, Joins.forth, Joins.back, Simple}
 use Rattle.network.specs.Chains.{Hop, Hop.by, Chain, Chain.here, Chain.step, Every}
 use Rattle.network.proofs.Chains.{hop-back, hop-in, chain-back}
-use Rattle.forests.specs.Published.{Arrow, Parent.above, Greedy}
+use Rattle.plans.specs.Published.{Arrow, Parent.above, Greedy}
 
 -- The last arrow of a chain of arrows from z to v.
 pub record LastArrow (g : Network) (F : ℕ → Type 0) (t : ℕ → ℕ) (z v : ℕ) : Type 0 where

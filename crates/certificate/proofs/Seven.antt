@@ -17,10 +17,10 @@ use Rattle.network.specs.Chains.{Hop, Hop.by, Chain, Chain.here, Chain.step, Ev
 use Rattle.network.specs.Faults.{Sound}
 use Rattle.network.specs.Judging.{sameEnds, stationsJudged, lengthJudged, endsJudged, lineJudged, linesJudged, listJudged}
 use Rattle.network.proofs.Chains.{hop-back, chain-start, chain-join, chain-back}
-use Rattle.network.proofs.Judging.{neither}
 use Rattle.network.proofs.Sound.{taken-sound}
-use Rattle.forests.specs.Published.{MaximalForest}
-use Rattle.forests.specs.Plans.{InPlay, OfRank}
+use Rattle.plans.specs.Published.{MaximalForest}
+use Rattle.plans.specs.Plans.{InPlay, OfRank}
+use Rattle.laws.proofs.Truth.{neither}
 
 -- ── a cut that no hop crosses parts its sides ──
 

@@ -3,7 +3,7 @@
 use Prim.Native.Nat.{ℕ}
 use mathlib.Core.Path.{_≡_, refl, sym, ap, _∙_}
 use Rattle.kinds.proofs.Determined.{refusal-determined}
-use Rattle.forests.specs.Verdicts.{Kind, Kind.A, Kind.B, Kind.C, Kind.D, Kind.E, Verdict as Said, Verdict.accepted, Verdict.faulty}
+use Rattle.plans.specs.Verdicts.{Kind, Kind.A, Kind.B, Kind.C, Kind.D, Kind.E, Verdict as Said, Verdict.accepted, Verdict.faulty}
 use Rattle.forests.specs.Answers.{kindOf, faultPlace, verdictSaid, checkedAnswer}
 use Rattle.forests.specs.declared.FaultKind.{FaultKind}
 use Rattle.forests.specs.declared.FaultKind.the-variants.{RankAbove, NotEachOnce, ParentLacking, OtherParent, TreesApart}

@@ -1,12 +1,3 @@
-pub mod Hops
-pub mod Orders
-pub mod Trees
-pub mod Greedy
-pub mod Faults
-pub mod Rounds
-pub mod Plans
-pub mod Verdicts
-pub mod Judging
 pub mod Placing
 pub mod Seeing
 pub mod Tables

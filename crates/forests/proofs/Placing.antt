@@ -2,33 +2,18 @@
 -- Assumes nothing.
 use Prim.Native.Nat.{ℕ, _+_, _<_, _≤_}
 use mathlib.Core.Path.{_≡_, sym, _∙_}
-use mathlib.Core.Bool.{Bool, true, false}
+use mathlib.Core.Bool.{true, false}
 use mathlib.Core.List.{List}
 use mathlib.Core.Logic.{_⊎_, _⊎_.inl, _⊎_.inr}
-use native.Mathlib.Decide.{ℕ-discrete, decLt}
+use native.Mathlib.Decide.{ℕ-discrete}
 use native.Mathlib.Omega.{arith}
 use borrow.Author.Tests.{eq-eqb, ne-eqb}
 use lib.Dec.{eqb}
 use lib.ListN.{length, getD, set, length-set}
 use lib.Seq.{getD-set-same, getD-set-other}
 use Rattle.laws.specs.Fold.{anyFrom, lowest}
-use Rattle.laws.proofs.Fold.{FoundAt, FoundNone, first-cases, first-last, first-at, some-any}
+use Rattle.laws.proofs.Fold.{FoundAt, FoundNone, first-cases, first-last, some-any, lowest-more, lowest-new}
 use Rattle.forests.specs.Tables.{Placed}
-
--- The search for the lowest number, with one number more that passes, or that does not.
-pub lowest-new : (test : ℕ → Bool) (k last : ℕ) → ((j : ℕ) → j < k → test j ≡ false) → test k ≡ true → lowest test (k + 1) last ≡ k
-lowest-new test k last none here = first-at test (λ j. j) last (k + 1) k (omega arith) here none
-
-pub lowest-more : (test : ℕ → Bool) (k last : ℕ) → test k ≡ false → lowest test (k + 1) last ≡ lowest test k last
-lowest-more test k last not-here = go (first-cases test (λ j. j) last 0 k)
-  where
-    go : FoundAt test (λ j. j) 0 k (lowest test k last) ⊎ FoundNone test (λ j. j) last 0 k (lowest test k last) → lowest test (k + 1) last ≡ lowest test k last
-    go (inl f) = first-at test (λ j. j) last (k + 1) (f .place) (omega (arith, f .below)) (f .passes) (λ j h. f .earlier j (omega arith) h) ∙ sym (f .is)
-    go (inr f) = first-last test (λ j. j) last (k + 1) (λ j h. none j h (decLt j k)) ∙ sym (f .is)
-      where
-        none : (j : ℕ) → j < k + 1 → Dec (j < k) → test j ≡ false
-        none j h (yes l) = f .none j (omega arith) (omega arith)
-        none j h (no l) = let e : j ≡ k = omega arith in rw e not-here
 
 module _ (n : ℕ) (order : List ℕ) (j : ℕ) (positions : List ℕ) (P : Placed n order j positions) (h : j ≤ n) where
   -- Station v stood before exactly if the table has a position for it.
@@ -60,15 +45,6 @@ module _ (n : ℕ) (order : List ℕ) (j : ℕ) (positions : List ℕ) (P : Plac
           rw same
           (getD-set-same positions v j 0 (omega (arith, P .size)) ∙ sym (lowest-new (λ i. eqb (getD order i 0) v) j n (not-stood v l above) (eq-eqb _ _ e)))
       go w b (no other) = getD-set-other positions v w j 0 other ∙ (P .at w b ∙ sym (lowest-more (λ i. eqb (getD order i 0) w) j n (ne-eqb _ _ (λ x. other (sym x ∙ e)))))
-
--- A table whose first j entries are right, with the entry at j written.
-pub write-next : {A : Type 0} (f : ℕ → A) (table : List A) (j : ℕ) (d : A) → j < length table → ((i : ℕ) → i < j → getD table i d ≡ f i)
-    → (i : ℕ) → i < j + 1 → getD (set table j (f j)) i d ≡ f i
-write-next f table j d room right i h = go (ℕ-discrete i j)
-  where
-    go : Dec (i ≡ j) → getD (set table j (f j)) i d ≡ f i
-    go (yes e) = rw e (getD-set-same table j (f j) d room)
-    go (no m) = getD-set-other table j i (f j) d m ∙ right i (omega arith)
 
 -- Before any entry no station is placed.
 pub placed-none : (n : ℕ) (order positions : List ℕ) → length positions ≡ n → ((v : ℕ) → v < n → getD positions v 0 ≡ n) → Placed n order 0 positions

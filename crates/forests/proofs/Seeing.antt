@@ -14,7 +14,7 @@ use lib.ListN.{length, getD, set, length-set}
 use lib.Seq.{getD-set-same, getD-set-other}
 use Rattle.laws.specs.Fold.{pick}
 use Rattle.network.specs.Lines.{network, Joins}
-use Rattle.forests.specs.Checking.{inPlay, ofRank}
+use Rattle.plans.specs.Checking.{inPlay, ofRank}
 use Rattle.forests.specs.Tables.{Seen, seen, Blank, seeFrom}
 
 -- One of the first `count` lines passes the test, and joins the stations at positions j and h.

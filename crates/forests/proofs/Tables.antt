@@ -12,39 +12,21 @@ use borrow.Author.Tests.{lt-ltb, le-ltb, eqb-false, ne-eqb, not-true}
 use lib.Dec.{ltb}
 use lib.ListN.{length, getD, set, length-set}
 use lib.Seq.{getD-set-same, getD-set-other}
-use Rattle.laws.specs.Fold.{pick, upTo, firstFrom}
-use Rattle.laws.proofs.Fold.{FoundAt, FoundNone, first-cases, first-last, first-at, any-some, some-any}
+use Rattle.laws.specs.Fold.{pick, upTo}
+use Rattle.laws.proofs.Fold.{any-some, some-any, first-same}
 use Rattle.network.specs.Lines.{endOne, endTwo, network, Joins, Joins.forth, Joins.back}
 use Rattle.network.specs.Chains.{Hop.by}
 use Rattle.network.specs.Orders.{EachOnce}
 use Rattle.network.specs.Faults.{Sound}
-use Rattle.network.proofs.Ends.{both-true}
-use Rattle.forests.specs.Checking.{inPlay, ofRank, earliest, hasParent, hasOther, parentVerdict, otherVerdict, stationVerdict, stationsVerdict, positionOf, treesOf, lineVerdict, linesVerdict}
+use Rattle.plans.specs.Checking.{inPlay, ofRank, earliest, hasParent, hasOther, parentVerdict, otherVerdict, stationVerdict, stationsVerdict, positionOf, treesOf, lineVerdict, linesVerdict}
 use Rattle.forests.specs.Tables.{Placed, Seen, seeBetween, seeLine, seeLines, Blank, seenVerdict, allSeenVerdict, plant, plantAll, treesVerdict, allTreesVerdict}
-use Rattle.forests.specs.Verdicts.{Verdict.accepted, isFaulty}
-use Rattle.forests.specs.Faults.{Beside, Tied}
-use Rattle.forests.proofs.Hops.{in-play, play-in, of-rank, rank-of, linked-tied, tied-linked, firstBeside, searched, Searched, earliest-one}
-use Rattle.forests.proofs.Orders.{position-order, position-below, order-position}
+use Rattle.plans.specs.Verdicts.{Verdict.accepted, isFaulty}
+use Rattle.plans.specs.Faults.{Beside, Tied}
+use Rattle.plans.proofs.Hops.{in-play, play-in, of-rank, rank-of, linked-tied, tied-linked, firstBeside, searched, Searched, earliest-one}
+use Rattle.plans.proofs.Orders.{position-order, position-below, order-position}
 use Rattle.forests.proofs.Seeing.{Line, Right, blank-right, right-out, right-from}
-use Rattle.forests.proofs.Trees.{tree-kept, tree-new}
-
--- Two tests that hold in the same cases are the same.
-same-truth : (a b : Bool) → (a ≡ true → b ≡ true) → (b ≡ true → a ≡ true) → a ≡ b
-same-truth true true f g = refl
-same-truth true false f g = absurd (true≢false (sym (f refl)))
-same-truth false true f g = absurd (true≢false (sym (g refl)))
-same-truth false false f g = refl
-
--- Two searches that try the same have the same answer.
-first-same : {A : Type 0} (test : A → Bool) (f g : ℕ → A) (last : A) (k : ℕ) → ((j : ℕ) → j < k → f j ≡ g j) → firstFrom test f last 0 k ≡ firstFrom test g last 0 k
-first-same test f g last k same = go (first-cases test g last 0 k)
-  where
-    go : FoundAt test g 0 k (firstFrom test g last 0 k) ⊎ FoundNone test g last 0 k (firstFrom test g last 0 k) → firstFrom test f last 0 k ≡ firstFrom test g last 0 k
-    go (inl r) =
-        let below : r .place < k = omega (arith, r .below) in
-        first-at test f last k (r .place) below (rw (same (r .place) below) (r .passes)) (λ j h. rw (same j (omega arith)) (r .earlier j (omega arith) h))
-        ∙ (same (r .place) below ∙ sym (r .is))
-    go (inr r) = first-last test f last k (λ j h. rw (same j h) (r .none j (omega arith) (omega arith))) ∙ sym (r .is)
+use Rattle.plans.proofs.Trees.{tree-kept, tree-new}
+use Rattle.laws.proofs.Truth.{both-true, same-truth}
 
 module _ (n : ℕ) (lines ranks : List ℕ) (i : ℕ) (order positions : List ℕ) (s : Sound n lines) (O : EachOnce n order) (P : Placed n order n positions) where
   -- the table of positions
@@ -202,8 +184,8 @@ module _ (n : ℕ) (lines ranks : List ℕ) (i : ℕ) (order positions : List �
     pub stations-verdict : allSeenVerdict n i order t ≡ stationsVerdict n lines ranks i order
     unfolding allSeenVerdict stationsVerdict seenVerdict stationVerdict parentVerdict otherVerdict
     stations-verdict =
-        first-same isFaulty _ _ accepted n
-        (λ j l. rw (seen-earliest t R j l, seen-parent t R j l, seen-other t R j l))
+        first-same isFaulty _ _ accepted n 0
+        (λ j a b. let l : j < n = omega arith in rw (seen-earliest t R j l, seen-parent t R j l, seen-other t R j l))
 
     -- the table of trees after the first positions
     module _ (table : List ℕ) (size : length table ≡ n) where
@@ -240,8 +222,9 @@ module _ (n : ℕ) (lines ranks : List ℕ) (i : ℕ) (order positions : List �
       pub lines-verdict : allTreesVerdict lines ranks i positions (plantAll n (t .earliest) table) ≡ linesVerdict n lines ranks i order
       unfolding allTreesVerdict linesVerdict treesVerdict lineVerdict plantAll
       lines-verdict =
-          first-same isFaulty _ _ accepted (length lines / 2)
-          (λ p b.
+          first-same isFaulty _ _ accepted (length lines / 2) 0
+          (λ p a c.
+          let b : p < length lines / 2 = omega arith in
           let one = s .simple .proper .one-in p b in
           let two = s .simple .proper .two-in p b in
           rw (trees-right n (omega arith) (getD positions (endOne lines p) 0) (placed-below _ one), trees-right n (omega arith) (getD positions (endTwo lines p) 0) (placed-below _ two), placed-at _ one, placed-at _ two))

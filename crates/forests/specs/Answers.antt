@@ -2,7 +2,7 @@
 -- Assumes nothing.
 use Prim.Native.Nat.{ℕ}
 use Rattle.kinds.specs.Answers.{Answer, Answer.given, refusalAnswer}
-use Rattle.forests.specs.Verdicts.{Kind, Kind.A, Kind.B, Kind.C, Kind.D, Kind.E, Verdict as Said, Verdict.accepted, Verdict.faulty}
+use Rattle.plans.specs.Verdicts.{Kind, Kind.A, Kind.B, Kind.C, Kind.D, Kind.E, Verdict as Said, Verdict.accepted, Verdict.faulty}
 use Rattle.forests.specs.declared.FaultKind.{FaultKind}
 use Rattle.forests.specs.declared.FaultKind.the-variants.{RankAbove, NotEachOnce, ParentLacking, OtherParent, TreesApart}
 use Rattle.forests.specs.declared.Fault.{Fault}

@@ -1,7 +1,2 @@
-pub mod Verdicts
-pub mod Checking
-pub mod Published
-pub mod Plans
-pub mod Faults
 pub mod Answers
 pub mod Tables

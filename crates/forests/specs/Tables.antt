@@ -8,8 +8,8 @@ use lib.ListN.{length, getD, set}
 use lib.Dec.{ltb, eqb}
 use Rattle.laws.specs.Fold.{pick, upTo, firstFrom, lowest}
 use Rattle.network.specs.Lines.{endOne, endTwo}
-use Rattle.forests.specs.Verdicts.{Kind.C, Kind.D, Kind.E, Verdict, Verdict.accepted, faultIf, _orElse_, isFaulty}
-use Rattle.forests.specs.Checking.{inPlay, ofRank}
+use Rattle.plans.specs.Verdicts.{Kind.C, Kind.D, Kind.E, Verdict, Verdict.accepted, faultIf, _orElse_, isFaulty}
+use Rattle.plans.specs.Checking.{inPlay, ofRank}
 
 -- The stations of the first `count` entries have their positions in the table, and the others n.
 pub record Placed (n : ℕ) (order : List ℕ) (count : ℕ) (positions : List ℕ) : Type 0 where

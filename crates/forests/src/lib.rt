@@ -22,11 +22,11 @@ use round::check_round;
 ghost use mathlib.Core.Path.{_≡_};
 ghost use Prim.Native.Nat.{_*_, _≤_};
 ghost use lib.ListN.{length};
-ghost use Rattle.forests.specs.Verdicts.{isFaulty};
+ghost use Rattle.plans.specs.Verdicts.{isFaulty};
 ghost use Rattle.forests.specs.Answers.{verdictSaid, checkedAnswer};
 ghost use Rattle.kinds.specs.Answers.{judgedAnswer};
 ghost use Rattle.network.specs.Faults.{Sound};
-ghost use Rattle.forests.specs.Checking.{rankVerdict, ranksVerdict, roundsVerdict, planVerdict, planJudged, checkAnswer};
+ghost use Rattle.plans.specs.Checking.{rankVerdict, ranksVerdict, roundsVerdict, planVerdict, planJudged, checkAnswer};
 ghost use Rattle.forests.specs.Tables.{Room};
 
 // What is wrong: a kind of the document's table, with its own place.

@@ -20,9 +20,9 @@ ghost use lib.ListN.{length, getD};
 ghost use Rattle.network.specs.Faults.{Sound};
 ghost use Rattle.network.specs.Orders.{EachOnce};
 ghost use Rattle.forests.specs.Answers.{verdictSaid};
-ghost use Rattle.forests.specs.Checking.{entryVerdict, orderVerdict, stationsVerdict, linesVerdict, roundVerdict};
+ghost use Rattle.plans.specs.Checking.{entryVerdict, orderVerdict, stationsVerdict, linesVerdict, roundVerdict};
 ghost use Rattle.forests.specs.Tables.{Placed, Room, seen, Blank, seenVerdict, allSeenVerdict, treesVerdict, allTreesVerdict};
-ghost use Rattle.forests.specs.Verdicts.{isFaulty, _orElse_};
+ghost use Rattle.plans.specs.Verdicts.{isFaulty, _orElse_};
 
 // B at a position: its entry is a station that did not stand before. The table then has the position of that station too.
 fn place_entry(

@@ -9,7 +9,7 @@ ghost use mathlib.Core.Path.{_≡_};
 ghost use Prim.Native.Nat.{ℕ, _/_, _≤_, _<_};
 ghost use lib.ListN.{length, getD};
 ghost use Rattle.network.specs.Faults.{Sound};
-ghost use Rattle.forests.specs.Checking.{inPlay, ofRank};
+ghost use Rattle.plans.specs.Checking.{inPlay, ofRank};
 ghost use Rattle.forests.specs.Tables.{seen, Blank, Fitting, seeFrom, seeBetween, seeLine, seeLines, plant, plantAll};
 
 // Whether a line is in play in a round: its rank is 0 or at least the round.

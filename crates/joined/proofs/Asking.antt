@@ -2,7 +2,7 @@
 -- that does not; a station may be asked about just when it remains. Assumes nothing.
 use Prim.Native.Nat.{ℕ, zero, suc, _+_, _-_, _<_, _≤_}
 use mathlib.Core.Path.{_≡_, refl, sym, ap, _∙_}
-use mathlib.Core.Bool.{Bool, true, false, _&&_, _||_, true≢false}
+use mathlib.Core.Bool.{Bool, true, false, _&&_, _||_, true≢false, or-false, or-true}
 use mathlib.Core.List.{List}
 use mathlib.Core.Logic.{_⊎_, _⊎_.inl, _⊎_.inr}
 use native.Mathlib.Decide.{ℕ-discrete, decLt, decLe}
@@ -18,18 +18,13 @@ use Rattle.kinds.specs.Answers.{Answer, Answer.given, Answer.refused, taken, re
 use Rattle.kinds.proofs.Answers.{then-both, taken-is, passed}
 use Rattle.network.specs.Judging.{listJudged}
 use Rattle.network.specs.Faults.{Sound}
-use Rattle.network.proofs.Ends.{or-true}
-use Rattle.network.proofs.Judging.{neither}
 use Rattle.network.proofs.Sound.{taken-sound}
 use Rattle.joined.specs.Pieces.{isAway}
 use Rattle.joined.specs.Joined.{Remains}
 use Rattle.joined.specs.Rising.{Rising, RisesAt, FirstUnrisen}
 use Rattle.joined.specs.Asking.{awayJudged, allAwayJudged, askedJudged}
 use Rattle.joined.specs.Marks.{isGone, Unmarked, Gone}
-
-or-false : (x : Bool) → (x || false) ≡ x
-or-false true = refl
-or-false false = refl
+use Rattle.laws.proofs.Truth.{neither}
 
 -- Tries in order are one after the other, however they are grouped.
 then-group : {A : Type 0} (a b : Answer (Unit {0})) (c : Answer A) → (a andThen b) andThen c ≡ a andThen (b andThen c)

@@ -11,12 +11,12 @@ use lib.ListN.{length, getD}
 use Rattle.network.specs.Lines.{network, endOne, endTwo, Joins.forth, Joins.back, Proper}
 use Rattle.network.specs.Chains.{Hop, Hop.by, Chain.here, Chain.step, Every}
 use Rattle.network.proofs.Chains.{hop-back, chain-start, chain-join, chain-hop, chain-back}
-use Rattle.network.proofs.Judging.{neither}
 use Rattle.joined.specs.Joined.{Remains, Joined}
 use Rattle.joined.specs.Pieces.{piecesOf, onePiece}
 use Rattle.joined.specs.Lowest.{LowestJoined}
 use Rattle.joined.proofs.Tables.{alone-at, name-low}
 use Rattle.joined.proofs.Pieces.{Merged, Merged.stays, Merged.forth, Merged.back, merge-keeps, merge-one, merge-cases, namesAfter, names-none, names-all-lines, names-away, names-join, led}
+use Rattle.laws.proofs.Truth.{neither}
 
 module _ (n : ℕ) (lines : List ℕ) (away : ℕ → Bool) where
   -- ── an equivalence ──

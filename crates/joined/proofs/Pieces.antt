@@ -15,7 +15,8 @@ use Rattle.network.specs.Lines.{network, endOne, endTwo, Proper}
 use Rattle.joined.specs.Pieces.{isAway, alone, merge, joinLine, piecesOf, onePiece}
 use Rattle.joined.specs.Marks.{Gone, isGone}
 use Rattle.joined.specs.Tables.{Leads}
-use Rattle.joined.proofs.Tables.{map-at, alone-length, set-leads, name-low, name-own, join-leads, join-leads-back}
+use Rattle.joined.proofs.Tables.{alone-length, set-leads, name-low, name-own, join-leads, join-leads-back}
+use Rattle.laws.proofs.Lists.{map-at}
 
 -- ── two names become one ──
 

@@ -11,7 +11,6 @@ use Rattle.kinds.specs.Answers.{Answer, Answer.given, Answer.refused, taken, re
 use Rattle.kinds.proofs.Answers.{then-both, taken-is}
 use Rattle.network.specs.Judging.{listJudged}
 use Rattle.network.specs.Faults.{Sound}
-use Rattle.network.proofs.Judging.{neither}
 use Rattle.network.proofs.Sound.{taken-sound, sound-taken, fault-refused, refused-fault}
 use Rattle.joined.specs.Joined.{Remains, Joined}
 use Rattle.joined.specs.Pieces.{isAway, onePiece}
@@ -20,6 +19,7 @@ use Rattle.joined.specs.Right.{Right, JoinedFault, JoinedFault.network, 
 use Rattle.joined.specs.Asking.{allAwayJudged, askedJudged, joinedAnswer}
 use Rattle.joined.proofs.Asking.{taken-rising, rising-taken, unrisen-refused, refused-unrisen, asked-remains, remains-asked}
 use Rattle.joined.proofs.Chains.{one-piece-joined, joined-one-piece}
+use Rattle.laws.proofs.Truth.{neither}
 
 -- Tries that refuse: the first does, or it is taken and the rest does.
 then-cases : {A : Type 0} (a : Answer (Unit {0})) (b : Answer A) {number place list : ℕ} → a andThen b ≡ refused number place list

@@ -15,13 +15,7 @@ use lib.Seq.{getD-set-same, getD-set-other, getD-append-seam, ext-getD}
 use Rattle.laws.specs.Fold.{pick, upTo}
 use Rattle.joined.specs.Pieces.{alone, merge}
 use Rattle.joined.specs.Tables.{Leads}
-
--- ── lists ──
-
-pub map-at : (f : ℕ → ℕ) (l : List ℕ) (v : ℕ) → v < length l → getD (map f l) v 0 ≡ f (getD l v 0)
-map-at f [] v h = absurd (omega arith)
-map-at f (x ∷ l) zero h = refl
-map-at f (x ∷ l) (suc v) h = map-at f l v (omega arith)
+use Rattle.laws.proofs.Lists.{map-at}
 
 -- Each station alone: n of them, and at each its own number.
 pub alone-length : (n : ℕ) → length (alone n) ≡ n

@@ -2,11 +2,13 @@
 -- Assumes nothing.
 use mathlib.Core.Path.{_≡_, refl, sym, subst}
 use mathlib.Core.Logic.{_≢_}
-use mathlib.Core.Bool.{Bool, true, false}
+use mathlib.Core.Bool.{Bool, true, false, _||_}
 use Prim.Native.Nat.{ℕ, zero, suc, _+_, _≤_, _<_}
 use native.Mathlib.Numerals.{add-one}
 use native.Mathlib.Omega.{arith}
 use native.Mathlib.Decide.{ℕ-discrete}
+use borrow.Author.Tests.{ne-eqb}
+use lib.Dec.{eqb}
 use Rattle.laws.specs.Count.{total, bit, count}
 
 pub total-le : (n : ℕ) (f g : ℕ → ℕ) → ((v : ℕ) → v < n → f v ≤ g v) → total n f ≤ total n g
@@ -84,3 +86,23 @@ count-one-more (suc n) f g u l a b h = go (ℕ-discrete u n) (λ k. count-one-mo
         let there : g n ≡ true = rw e at b in
         rw (gone, there) (omega arith)
     go (no m) ih = rw (h n (λ (x : n ≡ u). m (sym x))) (omega (arith, ih (omega arith)))
+
+-- Those in one of two sets are at most those of both.
+bit-or : (b c : Bool) → bit (b || c) ≤ bit b + bit c
+bit-or true c = omega arith
+bit-or false c = omega arith
+
+pub count-or : (n : ℕ) (f g : ℕ → Bool) → count n (λ u. f u || g u) ≤ count n f + count n g
+count-or zero f g = omega arith
+count-or (suc n) f g = omega (arith, bit-or (f n) (g n), count-or n f g)
+
+-- At most one number equals v.
+pub count-equal : (n v : ℕ) → count n (λ u. eqb v u) ≤ 1
+count-equal zero v = omega arith
+count-equal (suc n) v = go (ℕ-discrete v n) (count-equal n v)
+  where
+    go : Dec (v ≡ n) → count n (λ u. eqb v u) ≤ 1 → bit (eqb v n) + count n (λ u. eqb v u) ≤ 1
+    go (yes e) h =
+        let none = count-none n (λ u. eqb v u) (λ u l. ne-eqb v u (λ (x : v ≡ u). omega arith)) in
+        omega (arith, none, bit-most (eqb v n))
+    go (no m) h = rw (ne-eqb v n m) (omega arith)

@@ -161,3 +161,44 @@ any-snoc test (suc k) i = rw (add-suc i k, ← (suc-add i k)) (go (test i) _ (an
 -- Whether some number below k + 1 passes, from those below k.
 pub any-more : (test : ℕ → Bool) (k : ℕ) → anyFrom test 0 (k + 1) ≡ (anyFrom test 0 k || test k)
 any-more test k = rw (add-one k) (rw zero-add at (any-snoc test k 0))
+
+-- Two searches whose tests agree on the same answers find the same.
+first-agree : {A : Type 0} (test test′ : A → Bool) (f f′ : ℕ → A) (last : A) (k i : ℕ)
+    → ((j : ℕ) → i ≤ j → j < i + k → (test (f j) ≡ test′ (f′ j)) × (f j ≡ f′ j)) → firstFrom test f last i k ≡ firstFrom test′ f′ last i k
+unfolding firstFrom
+first-agree test test′ f f′ last zero i h = refl
+first-agree test test′ f f′ last (suc k) i h =
+    let (e, g) = h i (omega arith) (omega arith) in
+    rw (e, g, first-agree test test′ f f′ last k (suc i) (λ j a b. h j (omega arith) (omega arith)))
+
+-- Two searches that try the same find the same.
+pub first-same : {A : Type 0} (test : A → Bool) (f f′ : ℕ → A) (last : A) (k i : ℕ)
+    → ((j : ℕ) → i ≤ j → j < i + k → f j ≡ f′ j) → firstFrom test f last i k ≡ firstFrom test f′ last i k
+first-same test f f′ last k i h = first-agree test test f f′ last k i (λ j a b. (ap test (h j a b), h j a b))
+
+-- The lowest number of two tests that agree below n.
+pub lowest-same : (test test′ : ℕ → Bool) (n last : ℕ) → ((j : ℕ) → j < n → test j ≡ test′ j) → lowest test n last ≡ lowest test′ n last
+lowest-same test test′ n last h = first-agree test test′ (λ i. i) (λ i. i) last n 0 (λ j a b. (h j (omega arith), refl))
+
+-- Where the search finds no number below n, none passes.
+pub lowest-none : (test : ℕ → Bool) (n : ℕ) → n ≤ lowest test n n → (v : ℕ) → v < n → test v ≡ false
+lowest-none test n h v l = go (first-cases test (λ i. i) n 0 n)
+  where
+    go : FoundAt test (λ i. i) 0 n (lowest test n n) ⊎ FoundNone test (λ i. i) n 0 n (lowest test n n) → test v ≡ false
+    go (inl r) = absurd (omega (arith, r .is, r .below))
+    go (inr r) = r .none v (omega arith) (omega arith)
+
+-- The search for the lowest number, with one number more that passes, or that does not.
+pub lowest-new : (test : ℕ → Bool) (k last : ℕ) → ((j : ℕ) → j < k → test j ≡ false) → test k ≡ true → lowest test (k + 1) last ≡ k
+lowest-new test k last none here = first-at test (λ j. j) last (k + 1) k (omega arith) here none
+
+pub lowest-more : (test : ℕ → Bool) (k last : ℕ) → test k ≡ false → lowest test (k + 1) last ≡ lowest test k last
+lowest-more test k last not-here = go (first-cases test (λ j. j) last 0 k)
+  where
+    go : FoundAt test (λ j. j) 0 k (lowest test k last) ⊎ FoundNone test (λ j. j) last 0 k (lowest test k last) → lowest test (k + 1) last ≡ lowest test k last
+    go (inl f) = first-at test (λ j. j) last (k + 1) (f .place) (omega (arith, f .below)) (f .passes) (λ j h. f .earlier j (omega arith) h) ∙ sym (f .is)
+    go (inr f) = first-last test (λ j. j) last (k + 1) (λ j h. none j h (decLt j k)) ∙ sym (f .is)
+      where
+        none : (j : ℕ) → j < k + 1 → Dec (j < k) → test j ≡ false
+        none j h (yes l) = f .none j (omega arith) (omega arith)
+        none j h (no l) = let e : j ≡ k = omega arith in rw e not-here

@@ -1,3 +1,4 @@
+pub mod Truth
 pub mod Fold
 pub mod Count
 pub mod Decide

@@ -2,13 +2,13 @@
 -- Assumes nothing.
 use Prim.Native.Nat.{ℕ, zero, suc, _+_, _*_, _-_, _<_, _≤_}
 use mathlib.Core.Path.{_≡_, refl, sym, ap, _∙_}
-use mathlib.Core.List.{List, [], _∷_, _++_, append-assoc, append-nil}
+use mathlib.Core.List.{List, [], _∷_, _++_, map, append-assoc, append-nil}
 use native.Mathlib.Nat.{suc-mul, mul-le-mul-right, add-sub-cancel-left}
-use native.Mathlib.Decide.{decLt}
+use native.Mathlib.Decide.{ℕ-discrete, decLt}
 use native.Mathlib.Omega.{arith}
 use native.Mathlib.Numerals.{add-one}
 use lib.ListN.{length, getD, set, take, drop, replicate, length-replicate, getD-replicate, List·getD-eq-default}
-use lib.Seq.{drop-cons, set-at, take-at, drop-at, drop-drop, drop-length}
+use lib.Seq.{getD-set-same, getD-set-other, drop-cons, set-at, take-at, drop-at, drop-drop, drop-length}
 
 -- A list of one value, read with that value past its end.
 pub replicate-at : {A : Type 0} (n i : ℕ) (v : A) → getD (replicate n v) i v ≡ v
@@ -50,3 +50,18 @@ part-next i n = rw (add-one i) (suc-mul i n)
 
 pub part-fits : (i k n : ℕ) → i < k → i * n + n ≤ k * n
 part-fits i k n h = omega (arith, suc-mul i n, mul-le-mul-right n h)
+
+-- An entry of a list of which each entry is changed.
+pub map-at : (f : ℕ → ℕ) (l : List ℕ) (v : ℕ) → v < length l → getD (map f l) v 0 ≡ f (getD l v 0)
+map-at f [] v h = absurd (omega arith)
+map-at f (x ∷ l) zero h = refl
+map-at f (x ∷ l) (suc v) h = map-at f l v (omega arith)
+
+-- A table whose first j entries are right, with the entry at j written.
+pub write-next : {A : Type 0} (f : ℕ → A) (table : List A) (j : ℕ) (d : A) → j < length table → ((i : ℕ) → i < j → getD table i d ≡ f i)
+    → (i : ℕ) → i < j + 1 → getD (set table j (f j)) i d ≡ f i
+write-next f table j d room right i h = go (ℕ-discrete i j)
+  where
+    go : Dec (i ≡ j) → getD (set table j (f j)) i d ≡ f i
+    go (yes e) = rw e (getD-set-same table j (f j) d room)
+    go (no m) = getD-set-other table j i (f j) d m ∙ right i (omega arith)

@@ -1,25 +1,13 @@
 -- What the test of ends says: the same two stations, either way round.
 -- Assumes nothing.
 use Prim.Native.Nat.{ℕ}
-use mathlib.Core.Path.{_≡_, refl, sym}
-use mathlib.Core.Bool.{Bool, true, false, _&&_, _||_, true≢false}
+use mathlib.Core.Path.{_≡_}
+use mathlib.Core.Bool.{true, _&&_, or-true}
 use mathlib.Core.Logic.{_⊎_, _⊎_.inl, _⊎_.inr}
 use borrow.Author.Tests.{eqb-true, eq-eqb}
 use lib.Dec.{eqb}
 use Rattle.network.specs.Judging.{sameEnds}
-
--- Both tests hold, and one of two tests holds.
-pub both-true : (x y : Bool) → (x && y) ≡ true → (x ≡ true) × (y ≡ true)
-both-true true y e = (refl, e)
-both-true false y e = absurd (true≢false (sym e))
-
-pub either-true : (x y : Bool) → (x || y) ≡ true → (x ≡ true) ⊎ (y ≡ true)
-either-true true y e = inl refl
-either-true false y e = inr e
-
-pub or-true : (x : Bool) → (x || true) ≡ true
-or-true true = refl
-or-true false = refl
+use Rattle.laws.proofs.Truth.{both-true, either-true}
 
 module _ (a b c d : ℕ) where
   pub same-ends : sameEnds a b c d ≡ true → ((a ≡ c) × (b ≡ d)) ⊎ ((a ≡ d) × (b ≡ c))

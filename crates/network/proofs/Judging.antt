@@ -1,8 +1,8 @@
 -- The laws of judging one line: what its ends and the lines before it make of it.
 -- Assumes nothing.
 use Prim.Native.Nat.{ℕ, _*_, _/_, _%_, _≤_}
-use mathlib.Core.Path.{_≡_, refl, sym, _∙_}
-use mathlib.Core.Bool.{Bool, true, false, _||_, true≢false}
+use mathlib.Core.Path.{_≡_, sym, _∙_}
+use mathlib.Core.Bool.{true, false, _||_}
 use mathlib.Core.List.{List}
 use native.Mathlib.Omega.{arith}
 use borrow.Author.Tests.{ltb-false, leb-false, eqb-false}
@@ -13,11 +13,7 @@ use Rattle.kinds.proofs.Answers.{then-next, then-refused, then-both, passed}
 use Rattle.network.specs.Lines.{endOne, endTwo}
 use Rattle.network.specs.Faults.{EndsGood}
 use Rattle.network.specs.Judging.{stoodBefore, stationsJudged, lengthJudged, endsJudged, lineJudged}
-
--- Neither of two tests holds.
-pub neither : (x y : Bool) → (x || y) ≡ false → (x ≡ false) × (y ≡ false)
-neither true y e = absurd (true≢false e)
-neither false y e = (refl, e)
+use Rattle.laws.proofs.Truth.{neither}
 
 -- What is known of n and of a list's length that are not refused.
 pub stations-good : (n : ℕ) → isRefused (stationsJudged n) ≡ false → (1 ≤ n) × (n ≤ 1024)

@@ -2,7 +2,7 @@
 -- Assumes nothing.
 use Prim.Native.Nat.{ℕ, _/_, _%_, _<_, _≤_}
 use mathlib.Core.Path.{_≡_, refl, sym, ap, _∙_}
-use mathlib.Core.Bool.{Bool, true, false, true≢false}
+use mathlib.Core.Bool.{Bool, true, false, true≢false, or-true}
 use mathlib.Core.List.{List}
 use mathlib.Core.Logic.{_⊎_, _⊎_.inl, _⊎_.inr}
 use native.Mathlib.Decide.{ℕ-discrete, decLt, decLe}
@@ -16,7 +16,7 @@ use Rattle.kinds.proofs.Answers.{then-both, passed}
 use Rattle.network.specs.Lines.{endOne, endTwo, network, Joins, Joins.forth, Joins.back, Simple, Within}
 use Rattle.network.specs.Judging.{sameEnds, stoodBefore, stationsJudged, lengthJudged, endsJudged, lineJudged, linesJudged, listJudged}
 use Rattle.network.specs.Faults.{Sound, EndsGood, LineGood, LineFault, LineFault.outside, LineFault.equal, LineFault.stood, FirstFault, FirstFault.stations, FirstFault.numbers, FirstFault.line}
-use Rattle.network.proofs.Ends.{same-ends, ends-same, or-true}
+use Rattle.network.proofs.Ends.{same-ends, ends-same}
 use Rattle.network.proofs.Judging.{ends-good}
 
 -- ── one line ──

@@ -1,17 +1,14 @@
 -- What a buffer that is not too short has room for.
 -- Assumes nothing.
 use Prim.Native.Nat.{ℕ, _+_, _*_, _/_, _≤_}
-use mathlib.Core.Path.{_≡_, refl}
-use mathlib.Core.Bool.{Bool, true, false, _||_, true≢false}
+use mathlib.Core.Path.{_≡_}
+use mathlib.Core.Bool.{false}
 use mathlib.Core.List.{List}
 use lib.ListN.{length}
 use borrow.Author.Tests.{ltb-false}
 use Rattle.report.specs.Answers.{keepShort}
-
-both-false : (a b : Bool) → (a || b) ≡ false → (a ≡ false) × (b ≡ false)
-both-false true b e = absurd (true≢false e)
-both-false false b e = (refl, e)
+use Rattle.laws.proofs.Truth.{neither}
 
 pub keep-room : (lines : List ℕ) (room : ℕ) → keepShort lines room ≡ false → (length lines ≤ 16384) × (128 + 64 * (length lines / 2) ≤ room)
 unfolding keepShort
-keep-room lines room e = let h = both-false _ _ e in (ltb-false _ _ (h .0), ltb-false _ _ (h .1))
+keep-room lines room e = let h = neither _ _ e in (ltb-false _ _ (h .0), ltb-false _ _ (h .1))

@@ -12,10 +12,11 @@ use Rattle.laws.proofs.Fold.{first-all, first-last}
 use Rattle.kinds.specs.Answers.{taken, _andThen_, isRefused}
 use Rattle.kinds.proofs.Answers.{then-both, taken-is, passed}
 use Rattle.network.specs.Judging.{stationsJudged, lengthJudged, linesJudged, listJudged}
-use Rattle.network.proofs.Judging.{neither, stations-good, length-good}
+use Rattle.network.proofs.Judging.{stations-good, length-good}
 use Rattle.network.proofs.Sound.{within-taken, lines-only, taken-sound, sound-taken}
 use Rattle.request.specs.Judging.{levelJudged, startCountJudged, roomJudged, startJudged, startsJudged, sizesJudged, requestJudged}
 use Rattle.request.specs.Requests.{Sized, Request}
+use Rattle.laws.proofs.Truth.{neither}
 
 module _ (n k : ℕ) (lines starts : List ℕ) (short : Bool) where
   pub level-good : isRefused (levelJudged k) ≡ false → (1 ≤ k) × (k ≤ 16)

@@ -7,8 +7,8 @@ use mathlib.Core.List.{List}
 use borrow.Author.Tests.{ltb-false}
 use lib.Dec.{ltb}
 use lib.ListN.{length}
-use Rattle.network.proofs.Judging.{neither}
 use Rattle.request.specs.Judging.{planShort}
+use Rattle.laws.proofs.Truth.{neither}
 
 pub room-enough : (n k : ℕ) (lines : List ℕ) (ranks orders : ℕ) → planShort n k lines ranks orders ≡ false → (length lines / 2 ≤ ranks) × (k * n ≤ orders)
 unfolding planShort

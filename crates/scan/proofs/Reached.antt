@@ -17,8 +17,10 @@ use Rattle.network.specs.Orders.{EachOnce}
 use Rattle.scan.specs.Rule.{Marks, marks, Scanning, scanStation, scanAs, roundStart, oneRound}
 use Rattle.scan.proofs.Marks.{stored}
 use Rattle.scan.proofs.Order.{round-each-once}
-use Rattle.scan.proofs.Takes.{Leads, joins-turn, leads-turn, not-so, Taken, Led, Takes, scan-takes}
+use Rattle.scan.proofs.Takes.{Leads, leads-turn, Taken, Led, Takes, scan-takes}
 use Rattle.scan.proofs.Stages.{Earlier, Stage, after, after-none, after-more, after-stage}
+use Rattle.network.proofs.Chains.{joins-back}
+use Rattle.laws.proofs.Truth.{not-so}
 
 -- A line in play by these ranks joins v to a station before position t of the order.
 pub record Neighbour (n : ℕ) (lines ranks order : List ℕ) (t v : ℕ) : Type 0 where
@@ -200,7 +202,7 @@ module _ (n : ℕ) (lines before order : List ℕ) (simple : Simple (network n l
               position = t;
               below = omega arith;
               station = k .station;
-              joins = joins-turn (k .leads .joins);
+              joins = joins-back (k .leads .joins);
               later = unmarked-later (k .station) (k .unmarked);
               first = unmarked-first (k .station) (k .unmarked);
             }
@@ -208,7 +210,7 @@ module _ (n : ℕ) (lines before order : List ℕ) (simple : Simple (network n l
         -- a neighbour of the station scanned: its line is in play, or leads back to where it was taken
         near-now : (p v : ℕ) → Leads n lines before p v (getD order t 0) → (getD (s .ranks) p 0 ≡ 0) ⊎ (getD (s .ranks) p 0 ≡ round)
             → getD (Now .marked) v false ≡ true
-        near-now p v l (inl e) = T .reached p v (l .place) (record { place = l .place; in-play = e; joins = joins-turn (l .joins) })
+        near-now p v l (inl e) = T .reached p v (l .place) (record { place = l .place; in-play = e; joins = joins-back (l .joins) })
         near-now p v l (inr e) = go (R .taken p (l .in-play) e)
           where
             go : TakenAt n lines before order t p → getD (Now .marked) v false ≡ true
@@ -232,7 +234,7 @@ module _ (n : ℕ) (lines before order : List ℕ) (simple : Simple (network n l
         takes-now : (p v : ℕ) → Leads n lines before p v (getD order t 0) → ¬ Earlier order (suc t) v → ¬ Neighbour n lines before order t v
             → (getD (s .ranks) p 0 ≡ 0) ⊎ (getD (s .ranks) p 0 ≡ round) → getD (Now .ranks) p 0 ≡ round
         takes-now p v l later first (inl e) =
-            T .takes p v (l .place) (record { place = l .place; in-play = e; joins = joins-turn (l .joins) }) (later-unmarked v later first)
+            T .takes p v (l .place) (record { place = l .place; in-play = e; joins = joins-back (l .joins) }) (later-unmarked v later first)
         takes-now p v l later first (inr e) = still p e (T .only p)
 
         takes : (p i v : ℕ) → i < suc t → Leads n lines before p v (getD order i 0) → ¬ Earlier order (suc i) v → ¬ Neighbour n lines before order i v

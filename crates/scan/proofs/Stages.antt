@@ -13,7 +13,7 @@ use Rattle.laws.specs.Fold.{pick, upTo, lowest}
 use Rattle.laws.proofs.Fold.{FoundAt, FoundNone, first-cases, some-any}
 use Rattle.scan.specs.Rule.{Scanning, ready, nextStation, scanAs, scanNext, roundStart, allScanned, oneRound}
 use Rattle.scan.proofs.Order.{Halfway, halfway}
-use Rattle.scan.proofs.Takes.{not-so}
+use Rattle.laws.proofs.Truth.{not-so}
 
 -- Station v stands before position t of the order.
 pub record Earlier (order : List ℕ) (t v : ℕ) : Type 0 where

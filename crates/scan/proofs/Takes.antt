@@ -16,6 +16,8 @@ use Rattle.laws.specs.Fold.{pick, upTo}
 use Rattle.network.specs.Lines.{endOne, endTwo, Network, network, Joins, Joins.forth, Joins.back, Simple}
 use Rattle.scan.specs.Rule.{Marks, marks, takeTo, takeLine, scanStation}
 use Rattle.scan.proofs.Marks.{Grown, grown-none, grown-more, take-line-grown}
+use Rattle.network.proofs.Chains.{joins-back}
+use Rattle.laws.proofs.Truth.{not-so}
 
 -- Line p is in play by these ranks, and joins u and v.
 pub record Leads (n : ℕ) (lines ranks : List ℕ) (p u v : ℕ) : Type 0 where
@@ -23,12 +25,8 @@ pub record Leads (n : ℕ) (lines ranks : List ℕ) (p u v : ℕ) : Type 0 where
   pub in-play : getD ranks p 0 ≡ 0
   pub joins : Joins (network n lines) p u v
 
-pub joins-turn : {g : Network} {p u v : ℕ} → Joins g p u v → Joins g p v u
-joins-turn (forth x y) = back x y
-joins-turn (back x y) = forth x y
-
 pub leads-turn : {n : ℕ} {lines ranks : List ℕ} {p u v : ℕ} → Leads n lines ranks p u v → Leads n lines ranks p v u
-leads-turn l = record { place = l .place; in-play = l .in-play; joins = joins-turn (l .joins) }
+leads-turn l = record { place = l .place; in-play = l .in-play; joins = joins-back (l .joins) }
 
 -- A line that has u as one end has one other end.
 pub other-end : {g : Network} {p u v w : ℕ} → g .one p ≢ g .two p → Joins g p u v → Joins g p u w → v ≡ w
@@ -36,10 +34,6 @@ other-end apart (forth x y) (forth z w) = sym y ∙ w
 other-end apart (forth x y) (back z w) = absurd (apart (x ∙ sym w))
 other-end apart (back x y) (forth z w) = absurd (apart (z ∙ sym y))
 other-end apart (back x y) (back z w) = sym x ∙ z
-
-pub not-so : (b : Bool) → ¬ (b ≡ true) → b ≡ false
-not-so true n = absurd (n refl)
-not-so false n = refl
 
 -- ── one line ──
 

@@ -7,7 +7,7 @@ use Rattle.request.specs.Judging.{levelJudged, startCountJudged, roomJudged, st
 use Rattle.scan.specs.Rule.{takeTo, takeLine, scanStation, ready, fresh, nextStation, scanAs, scanNext, allScanned, oneRound}
 use Rattle.kept.specs.Kept.{keptCount, copyLine, keptLines}
 use Rattle.prune.specs.Pruning.{nextRound, allRounds, pruned, pruneAnswer}
-use Rattle.forests.specs.Checking.{inPlay, ofRank, linked, rankVerdict, ranksVerdict, entryVerdict, orderVerdict, earliest, hasParent, hasOther, parentVerdict, otherVerdict, stationVerdict, stationsVerdict, positionOf, addTree, treesOf, lineVerdict, linesVerdict, roundVerdict, roundsVerdict, orderOf, planVerdict, planJudged, checkAnswer}
+use Rattle.plans.specs.Checking.{inPlay, ofRank, linked, rankVerdict, ranksVerdict, entryVerdict, orderVerdict, earliest, hasParent, hasOther, parentVerdict, otherVerdict, stationVerdict, stationsVerdict, positionOf, addTree, treesOf, lineVerdict, linesVerdict, roundVerdict, roundsVerdict, orderOf, planVerdict, planJudged, checkAnswer}
 use Rattle.joined.specs.Pieces.{isAway, alone, merge, joinLine, piecesOf, onePiece}
 use Rattle.joined.specs.Asking.{awayJudged, allAwayJudged, askedJudged, joinedAnswer}
 use Rattle.unite.specs.Union.{addLine, united, listsJudged, unionJudged, unionShort, sizeAnswer, unionAnswer}

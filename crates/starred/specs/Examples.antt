@@ -8,8 +8,8 @@ use Rattle.kinds.specs.Answers.{Answer, Answer.given, Answer.refused}
 use Rattle.network.specs.Judging.{listJudged}
 use Rattle.kept.specs.Kept.{keptLines}
 use Rattle.prune.specs.Pruning.{rounds, pruned, pruneAnswer}
-use Rattle.forests.specs.Verdicts.{Kind.C, Kind.D, Kind.E, Verdict.accepted, Verdict.faulty}
-use Rattle.forests.specs.Checking.{planVerdict, checkAnswer}
+use Rattle.plans.specs.Verdicts.{Kind.C, Kind.D, Kind.E, Verdict.accepted, Verdict.faulty}
+use Rattle.plans.specs.Checking.{planVerdict, checkAnswer}
 use Rattle.joined.specs.Asking.{joinedAnswer}
 use Rattle.unite.specs.Union.{united, unionAnswer}
 use Rattle.weakness.specs.Standing.{Standing.stands, Standing.weak, weakAnswer}

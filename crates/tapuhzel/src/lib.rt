@@ -24,7 +24,7 @@ ghost use Rattle.kept.specs.Kept.{keptLines, copyAnswer, after};
 ghost use Rattle.unite.specs.Union.{united, unionAnswer};
 ghost use Rattle.prune.specs.Pruning.{pruned, pruneAnswer};
 ghost use Rattle.forests.specs.Answers.{kindOf, faultPlace, verdictSaid};
-ghost use Rattle.forests.specs.Checking.{checkAnswer};
+ghost use Rattle.plans.specs.Checking.{checkAnswer};
 ghost use Rattle.tapuhzel.specs.Codes.{numberSaid, placeSaid, listSaid, countSaid, joinedSaid, letterNumber, kindSaid, roundSaid, faultPlaceSaid};
 
 // A refusal: its number returned, its place and its list written.

@@ -2,7 +2,7 @@
 -- Assumes nothing.
 
 use Prim.Native.Nat.{ℕ, _+_, _<_, _≤_}
-use mathlib.Core.Path.{_≡_, refl, sym, ap, _∙_}
+use mathlib.Core.Path.{_≡_, refl, sym, _∙_}
 use mathlib.Core.Bool.{Bool, true, false, not, _&&_, true≢false}
 use mathlib.Core.List.{List, [], _∷_}
 use native.Mathlib.Decide.{decLe}
@@ -17,8 +17,8 @@ use Rattle.joined.specs.Pieces.{isAway, onePiece}
 use Rattle.joined.proofs.Chains.{one-piece-joined, joined-one-piece}
 use Rattle.certificate.specs.Alike.{Alike}
 use Rattle.weakness.specs.Standing.{Standing, Standing.stands, isWeak, lowestRemaining, lowestApart, without, withoutOnes, withoutSeconds, withoutTwos, weakSpot}
-use Rattle.weakness.proofs.Looking.{first-same, lowest-same}
 use Rattle.weakness.proofs.Remaining.{lowest-remains, none-few, one-few, two-few}
+use Rattle.laws.proofs.Fold.{first-same, lowest-same}
 
 module _ {n k : ℕ} {lines lines′ : List ℕ} (sound : Sound n lines) (sound′ : Sound n lines′) (alike : Alike n k lines lines′) where
   -- two stations that remain are of one piece in both, or in neither
@@ -53,20 +53,20 @@ module _ {n k : ℕ} {lines lines′ : List ℕ} (sound : Sound n lines) (sound�
   same-ones : 2 ≤ k → withoutOnes n lines ≡ withoutOnes n lines′
   unfolding withoutOnes
   same-ones h =
-      first-same isWeak isWeak (λ v. without n lines (v ∷ [])) (λ v. without n lines′ (v ∷ [])) stands n 0
-      (λ v a b. let e = same-without (v ∷ []) (omega (arith, one-few n v)) in (ap isWeak e, e))
+      first-same isWeak (λ v. without n lines (v ∷ [])) (λ v. without n lines′ (v ∷ [])) stands n 0
+      (λ v a b. same-without (v ∷ []) (omega (arith, one-few n v)))
 
   same-seconds : 3 ≤ k → (v : ℕ) → withoutSeconds n lines v ≡ withoutSeconds n lines′ v
   unfolding withoutSeconds
   same-seconds h v =
-      first-same isWeak isWeak (λ w. without n lines (v ∷ (w ∷ []))) (λ w. without n lines′ (v ∷ (w ∷ []))) stands _ (v + 1)
-      (λ w a b. let e = same-without (v ∷ (w ∷ [])) (omega (arith, two-few n v w)) in (ap isWeak e, e))
+      first-same isWeak (λ w. without n lines (v ∷ (w ∷ []))) (λ w. without n lines′ (v ∷ (w ∷ []))) stands _ (v + 1)
+      (λ w a b. same-without (v ∷ (w ∷ [])) (omega (arith, two-few n v w)))
 
   same-twos : 3 ≤ k → withoutTwos n lines ≡ withoutTwos n lines′
   unfolding withoutTwos
   same-twos h =
-      first-same isWeak isWeak (withoutSeconds n lines) (withoutSeconds n lines′) stands n 0
-      (λ v a b. let e = same-seconds h v in (ap isWeak e, e))
+      first-same isWeak (withoutSeconds n lines) (withoutSeconds n lines′) stands n 0
+      (λ v a b. same-seconds h v)
 
   -- what is tried at a level, or not
   same-from : (m : ℕ) (one two : Standing) → (m ≤ k → one ≡ two) → pick (leb m k) one stands ≡ pick (leb m k) two stands

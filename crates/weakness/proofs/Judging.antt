@@ -11,10 +11,10 @@ use Rattle.kinds.specs.Answers.{taken, _andThen_, isRefused}
 use Rattle.kinds.proofs.Answers.{then-both, taken-is, passed}
 use Rattle.network.specs.Judging.{stationsJudged, lengthJudged, linesJudged}
 use Rattle.network.specs.Faults.{Sound}
-use Rattle.network.proofs.Judging.{neither}
 use Rattle.network.proofs.Sound.{within-taken, lines-only, taken-sound, sound-taken}
-use Rattle.forests.proofs.Judging.{within-good}
+use Rattle.plans.proofs.Judging.{within-good}
 use Rattle.weakness.specs.Standing.{weakLevelJudged, weakJudged}
+use Rattle.laws.proofs.Truth.{neither}
 
 pub record Searchable (n k : ℕ) (lines : List ℕ) : Type 0 where
   pub sound : Sound n lines

@@ -1,13 +1,9 @@
--- What a look at the marks and at the table of pieces says of the stations taken away; and searches that agree.
+-- What a look at the marks and at the table of pieces says of the stations taken away.
 -- Assumes nothing.
-
--- Two searches whose tests agree on the same answers find the same.
-
-use Prim.Native.Nat.{ℕ, zero, suc, _+_, _<_, _≤_}
+use Prim.Native.Nat.{ℕ, _<_, _≤_}
 use mathlib.Core.Path.{_≡_, refl, sym, _∙_}
 use mathlib.Core.Bool.{Bool, true, false, not, _&&_, _||_}
 use mathlib.Core.List.{List, [], _∷_}
-use mathlib.Core.Logic.{_⊎_, _⊎_.inl, _⊎_.inr}
 use native.Mathlib.Decide.{ℕ-discrete}
 use native.Mathlib.Omega.{arith}
 use borrow.Author.Tests.{lt-ltb, le-ltb, eq-eqb, ne-eqb, not-false}
@@ -15,33 +11,13 @@ use lib.Dec.{eqb}
 use lib.ListN.{length, set, length-set}
 use lib.Seq.{getD-set-same, getD-set-other}
 use Rattle.laws.specs.Fold.{pick, firstFrom, lowest}
-use Rattle.laws.proofs.Fold.{FoundAt, FoundNone, first-cases, first-last}
+use Rattle.laws.proofs.Fold.{first-last, lowest-none, lowest-same}
 use Rattle.network.specs.Lines.{network, Proper}
 use Rattle.joined.specs.Marks.{isGone, Unmarked, Gone}
 use Rattle.joined.specs.Pieces.{isAway, piecesOf, onePiece}
 use Rattle.joined.proofs.Pieces.{pieces-alike}
 use Rattle.weakness.specs.Standing.{Standing.stands, Standing.weak, lowestRemaining, lowestApart, without}
 use Rattle.weakness.specs.Looking.{isApart}
-
-pub first-same : {A : Type 0} (test test′ : A → Bool) (f f′ : ℕ → A) (last : A) (k i : ℕ)
-    → ((j : ℕ) → i ≤ j → j < i + k → (test (f j) ≡ test′ (f′ j)) × (f j ≡ f′ j)) → firstFrom test f last i k ≡ firstFrom test′ f′ last i k
-unfolding firstFrom
-first-same test test′ f f′ last zero i h = refl
-first-same test test′ f f′ last (suc k) i h =
-    let (e, g) = h i (omega arith) (omega arith) in
-    rw (e, g, first-same test test′ f f′ last k (suc i) (λ j a b. h j (omega arith) (omega arith)))
-
--- The lowest number of two tests that agree below n.
-pub lowest-same : (test test′ : ℕ → Bool) (n last : ℕ) → ((j : ℕ) → j < n → test j ≡ test′ j) → lowest test n last ≡ lowest test′ n last
-lowest-same test test′ n last h = first-same test test′ (λ i. i) (λ i. i) last n 0 (λ j a b. (h j (omega arith), refl))
-
--- Where the search finds no number below n, none passes.
-pub lowest-none : (test : ℕ → Bool) (n : ℕ) → n ≤ lowest test n n → (v : ℕ) → v < n → test v ≡ false
-lowest-none test n h v l = go (first-cases test (λ i. i) n 0 n)
-  where
-    go : FoundAt test (λ i. i) 0 n (lowest test n n) ⊎ FoundNone test (λ i. i) n 0 n (lowest test n n) → test v ≡ false
-    go (inl r) = absurd (omega (arith, r .is, r .below))
-    go (inr r) = r .none v (omega arith) (omega arith)
 
 -- ── the stations of a list, as marks ──
 

@@ -5,18 +5,18 @@
 
 -- Where a station remains, the lowest one does, and it is no higher.
 
-use Prim.Native.Nat.{ℕ, zero, suc, _+_, _<_, _≤_}
+use Prim.Native.Nat.{ℕ, _<_, _≤_}
 use mathlib.Core.Path.{_≡_, refl, sym, _∙_}
-use mathlib.Core.Bool.{Bool, true, false, not, _||_, true≢false}
+use mathlib.Core.Bool.{Bool, not, _||_, true≢false}
 use mathlib.Core.List.{[], _∷_}
 use mathlib.Core.Logic.{_⊎_, _⊎_.inl, _⊎_.inr}
-use native.Mathlib.Decide.{ℕ-discrete, decLt}
+use native.Mathlib.Decide.{decLt}
 use native.Mathlib.Omega.{arith}
-use borrow.Author.Tests.{ne-eqb, not-true}
+use borrow.Author.Tests.{not-true}
 use lib.Dec.{eqb}
 use Rattle.laws.specs.Fold.{firstFrom, lowest}
 use Rattle.laws.specs.Count.{count, bit}
-use Rattle.laws.proofs.Count.{total-same, bit-most, count-none}
+use Rattle.laws.proofs.Count.{total-same, count-none, count-equal, count-or}
 use Rattle.laws.proofs.Fold.{FoundAt, FoundNone, first-cases}
 use Rattle.joined.specs.Joined.{Remains}
 use Rattle.joined.specs.Pieces.{isAway}
@@ -46,24 +46,6 @@ lowest-remains n away v s = go (first-cases (λ u. not (away u)) (λ u. u) n 0 n
     go (inr r) = absurd (true≢false (sym (rw (s .stays)) ∙ r .none v (omega arith) (omega (arith, s .station))))
 
 -- ── how few are taken away ──
-
-bit-or : (b c : Bool) → bit (b || c) ≤ bit b + bit c
-bit-or true c = omega arith
-bit-or false c = omega arith
-
-count-or : (n : ℕ) (f g : ℕ → Bool) → count n (λ u. f u || g u) ≤ count n f + count n g
-count-or zero f g = omega arith
-count-or (suc n) f g = omega (arith, bit-or (f n) (g n), count-or n f g)
-
-count-equal : (n v : ℕ) → count n (λ u. eqb v u) ≤ 1
-count-equal zero v = omega arith
-count-equal (suc n) v = go (ℕ-discrete v n) (count-equal n v)
-  where
-    go : Dec (v ≡ n) → count n (λ u. eqb v u) ≤ 1 → bit (eqb v n) + count n (λ u. eqb v u) ≤ 1
-    go (yes e) h =
-        let none = count-none n (λ u. eqb v u) (λ u l. ne-eqb v u (λ (x : v ≡ u). omega arith)) in
-        omega (arith, none, bit-most (eqb v n))
-    go (no m) h = rw (ne-eqb v n m) (omega arith)
 
 pub none-few : (n : ℕ) → count n (isAway []) ≡ 0
 unfolding isAway firstFrom

@@ -3,9 +3,9 @@
 
 -- ── one set of stations ──
 
-use Prim.Native.Nat.{ℕ, zero, suc, _+_, _<_, _≤_}
+use Prim.Native.Nat.{ℕ, zero, suc, _<_, _≤_}
 use mathlib.Core.Path.{_≡_, refl, sym, ap, _∙_}
-use mathlib.Core.Bool.{Bool, true, false, not, _&&_, _||_, true≢false}
+use mathlib.Core.Bool.{Bool, true, false, not, _&&_, true≢false, or-false, or-true}
 use mathlib.Core.List.{List, [], _∷_}
 use mathlib.Core.Logic.{_⊎_, _⊎_.inl, _⊎_.inr, _↔_}
 use native.Mathlib.Decide.{ℕ-discrete}
@@ -16,7 +16,6 @@ use lib.ListN.{length}
 use Rattle.laws.specs.Fold.{firstFrom, lowest}
 use Rattle.laws.specs.Count.{count, bit}
 use Rattle.laws.proofs.Fold.{FoundAt, FoundNone, first-cases}
-use Rattle.network.specs.Lines.{network}
 use Rattle.network.specs.Chains.{Chain, Chain.here, Chain.step}
 use Rattle.network.specs.Faults.{Sound}
 use Rattle.joined.specs.Joined.{Remains, Joined}
@@ -150,17 +149,9 @@ spelled (suc n) away few = go (away n) refl (λ h. spelled n away h)
               spot = v ∷ (n ∷ []);
               rising = two-rising (suc n) v n (rising-one r) (omega arith);
               size = omega arith;
-              same = up-to (isAway (v ∷ (n ∷ []))) (rw (e, is-two v n n, eq-eqb n n refl) (or-true (eqb v n)))
+              same = up-to (isAway (v ∷ (n ∷ []))) (rw (e, is-two v n n, eq-eqb n n refl) (sym (or-true (eqb v n))))
                   (λ u l. same u l ∙ (is-one v u ∙ sym (rw (is-two v n u, ne-eqb n u (λ (f : n ≡ u). omega arith)) (or-false (eqb v u)))));
             }
-          where
-            or-true : (b : Bool) → true ≡ (b || true)
-            or-true true = refl
-            or-true false = refl
-
-            or-false : (b : Bool) → (b || false) ≡ b
-            or-false true = refl
-            or-false false = refl
         add one (v ∷ (w ∷ t)) r size same = absurd (omega arith)
 
         more : bit (away n) ≡ 1 → Spelled n away → Spelled (suc n) away

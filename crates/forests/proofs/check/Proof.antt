@@ -1,6 +1,6 @@
 -- `forests::check` meets its contract. What is not refused is a sound list with room for a plan, so it can be looked at. Assumes nothing.
-use Rattle.forests.proofs.Judging.{plan-good}
-use Rattle.forests.specs.Checking.{planJudged, checkAnswer}
+use Rattle.plans.proofs.Judging.{plan-good}
+use Rattle.plans.specs.Checking.{planJudged, checkAnswer}
 use Rattle.request.proofs.Room.{room-enough}
 use Rattle.request.specs.Judging.{planShort}
 use Rattle.kinds.specs.Answers.{taken, refusalAnswer, Answer.given}

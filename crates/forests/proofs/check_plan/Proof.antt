@@ -1,7 +1,7 @@
 -- `forests::check_plan` meets its contract. The first fault is the verdict; a try that finds none is passed over. Assumes nothing.
-use Rattle.forests.proofs.Verdicts.{or-faulty, or-next}
-use Rattle.forests.specs.Checking.{ranksVerdict, roundsVerdict, planVerdict}
-use Rattle.forests.specs.Verdicts.{isFaulty}
+use Rattle.plans.proofs.Verdicts.{or-faulty, or-next}
+use Rattle.plans.specs.Checking.{ranksVerdict, roundsVerdict, planVerdict}
+use Rattle.plans.specs.Verdicts.{isFaulty}
 use Rattle.forests.specs.Answers.{verdictSaid}
 use mathlib.Core.Bool.{true, false}
 use mathlib.Core.Path.{_≡_, sym, _∙_}

@@ -1,5 +1,5 @@
 -- `forests::check_rank` meets its contract. Each return rewrites by the test that led to it. Assumes nothing.
-use Rattle.forests.specs.Checking.{rankVerdict}
+use Rattle.plans.specs.Checking.{rankVerdict}
 use borrow.Author.Tests.{lt-ltb, le-ltb}
 use borrow.Author.Needs.{needs}
 use Rattle.forests.proofs.check_rank.Statement.{statement}

@@ -1,7 +1,7 @@
 -- `forests::check_ranks` meets its contract. The loop's invariant: what is left to look at from p on is the verdict. The measure is the
 -- number of lines left. Assumes nothing.
-use Rattle.forests.specs.Checking.{rankVerdict, ranksVerdict}
-use Rattle.forests.specs.Verdicts.{Verdict.accepted, isFaulty}
+use Rattle.plans.specs.Checking.{rankVerdict, ranksVerdict}
+use Rattle.plans.specs.Verdicts.{Verdict.accepted, isFaulty}
 use lib.ListN.{length}
 use Prim.Native.Nat.{_-_, _/_, _≤_}
 use mathlib.Core.Bool.{true, false}

@@ -1,6 +1,6 @@
 -- `forests::judge_plan` meets its contract. Each judge's refusal is the answer; a judge that passes is passed over. Assumes nothing.
-use Rattle.forests.proofs.Judging.{within-good}
-use Rattle.forests.specs.Checking.{planJudged}
+use Rattle.plans.proofs.Judging.{within-good}
+use Rattle.plans.specs.Checking.{planJudged}
 use Rattle.request.specs.Judging.{levelJudged, roomJudged}
 use Rattle.network.proofs.Sound.{lines-only}
 use Rattle.network.specs.Judging.{stationsJudged, lengthJudged}

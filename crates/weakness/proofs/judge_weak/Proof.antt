@@ -6,7 +6,7 @@ use Rattle.kinds.specs.Answers.{isRefused}
 use Rattle.kinds.proofs.Answers.{then-next, then-refused}
 use Rattle.network.specs.Judging.{stationsJudged, lengthJudged}
 use Rattle.network.proofs.Sound.{lines-only}
-use Rattle.forests.proofs.Judging.{within-good}
+use Rattle.plans.proofs.Judging.{within-good}
 use borrow.Author.Needs.{needs}
 use Rattle.weakness.proofs.judge_weak.Statement.{statement}
 use Rattle.weakness.proofs.judge_weak.Tie as tie

@@ -1,9 +1,9 @@
 -- `weakness::judge_weak_level` meets its contract. Each return rewrites by the tests that led to it. Assumes nothing.
-use Rattle.network.proofs.Ends.{or-true}
 use Rattle.weakness.specs.Standing.{weakLevelJudged}
 use lib.Dec.{ltb}
 use borrow.Author.Tests.{lt-ltb, le-ltb}
 use Rattle.weakness.proofs.judge_weak_level.Statement.{statement}
+use mathlib.Core.Bool.{or-true}
 use Rattle.weakness.proofs.judge_weak_level.Tie as tie
 
 returns : tie.Need-returns

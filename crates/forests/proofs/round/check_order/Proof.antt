@@ -3,10 +3,10 @@
 use mathlib.Core.Bool.{true≢false, true, false}
 use mathlib.Core.Path.{sym, _∙_, _≡_, refl}
 use Rattle.forests.specs.Tables.{Placed}
-use Rattle.forests.specs.Checking.{entryVerdict, orderVerdict}
+use Rattle.plans.specs.Checking.{entryVerdict, orderVerdict}
 use Prim.Native.Nat.{_-_, _≤_}
 use Rattle.forests.specs.Answers.{verdictSaid}
-use Rattle.forests.specs.Verdicts.{Verdict.accepted, isFaulty}
+use Rattle.plans.specs.Verdicts.{Verdict.accepted, isFaulty}
 use lib.ListN.{length}
 use Rattle.laws.proofs.Fold.{first-start, first-next, first-here, first-none}
 use Rattle.laws.specs.Fold.{firstFrom}

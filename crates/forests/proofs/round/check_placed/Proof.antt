@@ -1,11 +1,11 @@
 -- `forests::round::check_placed` meets its contract. When all lines are seen the tables say what the document's table says, so the verdicts by the
 -- tables are its verdicts. Assumes nothing.
-use Rattle.forests.specs.Checking.{stationsVerdict, linesVerdict}
-use Rattle.forests.proofs.Verdicts.{or-faulty, or-next}
+use Rattle.plans.specs.Checking.{stationsVerdict, linesVerdict}
+use Rattle.plans.proofs.Verdicts.{or-faulty, or-next}
 use Rattle.forests.proofs.Tables.{placed-below, lines-right, stations-verdict, lines-verdict}
 use Rattle.forests.proofs.Seeing.{Right}
 use Rattle.forests.specs.Tables.{Seen}
-use Rattle.forests.specs.Verdicts.{isFaulty}
+use Rattle.plans.specs.Verdicts.{isFaulty}
 use Rattle.forests.specs.Answers.{verdictSaid}
 use lib.ListN.{length}
 use mathlib.Core.Bool.{true, false}

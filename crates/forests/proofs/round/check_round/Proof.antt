@@ -1,9 +1,9 @@
 -- `forests::round::check_round` meets its contract. Where B finds no fault, the order has each station once, and every station is placed. Assumes
 -- nothing.
-use Rattle.forests.specs.Checking.{orderVerdict, stationsVerdict, linesVerdict, roundVerdict}
-use Rattle.forests.specs.Verdicts.{_orElse_, isFaulty}
-use Rattle.forests.proofs.Verdicts.{or-faulty, or-next}
-use Rattle.forests.proofs.Rounds.{order-each-once}
+use Rattle.plans.specs.Checking.{orderVerdict, stationsVerdict, linesVerdict, roundVerdict}
+use Rattle.plans.specs.Verdicts.{_orElse_, isFaulty}
+use Rattle.plans.proofs.Verdicts.{or-faulty, or-next}
+use Rattle.plans.proofs.Rounds.{order-each-once}
 use Rattle.forests.proofs.Placing.{placed-none}
 use Rattle.forests.specs.Answers.{verdictSaid}
 use mathlib.Core.Bool.{true, false}

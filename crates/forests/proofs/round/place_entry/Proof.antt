@@ -6,7 +6,7 @@ use lib.ListN.{getD}
 use mathlib.Core.Bool.{false, true≢false}
 use mathlib.Core.Path.{refl}
 use Rattle.forests.proofs.Placing.{stood, not-stood, placed-next}
-use Rattle.forests.specs.Checking.{entryVerdict}
+use Rattle.plans.specs.Checking.{entryVerdict}
 use Rattle.laws.proofs.Fold.{first-last}
 use borrow.Author.Tests.{le-leb, lt-leb}
 use borrow.Author.Needs.{needs}

@@ -1,6 +1,5 @@
 -- `forests::seen::empty_tables` meets its contract. The loop's invariant: the first j entries of each table are empty. The measure is n - j.
 -- Assumes nothing.
-use Rattle.forests.proofs.Placing.{write-next}
 use lib.ListN.{length, getD, length-set}
 use mathlib.Core.Bool.{false}
 use mathlib.Core.Path.{_≡_}
@@ -8,6 +7,7 @@ use Prim.Native.Nat.{ℕ, _-_, _<_, _≤_}
 use borrow.Author.Needs.{needs}
 use native.Mathlib.Omega.{arith}
 use Rattle.forests.proofs.seen.empty_tables.Statement.{statement}
+use Rattle.laws.proofs.Lists.{write-next}
 use Rattle.forests.proofs.seen.empty_tables.Tie as tie
 
 abbrev Inv-loop : tie.InvT-loop

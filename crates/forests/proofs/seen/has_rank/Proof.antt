@@ -1,5 +1,5 @@
 -- `forests::seen::has_rank` meets its contract. The test of two numbers is the definition's. Assumes nothing.
-use Rattle.forests.specs.Checking.{ofRank}
+use Rattle.plans.specs.Checking.{ofRank}
 use borrow.Author.Needs.{needs}
 use Rattle.forests.proofs.seen.has_rank.Statement.{statement}
 use Rattle.forests.proofs.seen.has_rank.Tie as tie

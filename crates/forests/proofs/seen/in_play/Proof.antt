@@ -1,5 +1,5 @@
 -- `forests::seen::in_play` meets its contract. Each return rewrites by the test that led to it. Assumes nothing.
-use Rattle.forests.specs.Checking.{inPlay}
+use Rattle.plans.specs.Checking.{inPlay}
 use borrow.Author.Tests.{eq-eqb, ne-eqb}
 use borrow.Author.Needs.{needs}
 use Rattle.forests.proofs.seen.in_play.Statement.{statement}

@@ -8,9 +8,9 @@ use lib.ListN.{length, getD}
 use Rattle.network.specs.Lines.{endOne, endTwo, network}
 use Rattle.network.specs.Chains.{Hop, Chain, Every}
 use Rattle.network.specs.Orders.{EachOnce}
-use Rattle.forests.specs.Verdicts.{Kind, Kind.A, Kind.B, Kind.C, Kind.D, Kind.E}
-use Rattle.forests.specs.Checking.{orderOf}
-use Rattle.forests.specs.Plans.{InPlay, OfRank, RoundMeets}
+use Rattle.plans.specs.Verdicts.{Kind, Kind.A, Kind.B, Kind.C, Kind.D, Kind.E}
+use Rattle.plans.specs.Checking.{orderOf}
+use Rattle.plans.specs.Plans.{InPlay, OfRank, RoundMeets}
 
 -- The entry at position j is a station, and new in the round.
 pub record EntryGood (n : ℕ) (order : List ℕ) (j : ℕ) : Type 0 where

@@ -12,13 +12,13 @@ use Rattle.network.specs.Lines.{endOne, endTwo, network, Joins, Joins.forth, Jo
 use Rattle.network.specs.Chains.{Hop, Hop.by, Chain, Every}
 use Rattle.network.specs.Orders.{EachOnce}
 use Rattle.network.proofs.Chains.{hop-back, hop-in, hop-apart, hop-map, chain-back, chain-keeps}
-use Rattle.forests.specs.Checking.{positionOf}
-use Rattle.forests.specs.Published.{Arrow, Rooted, Parent, Parent.above, Parent.itself, Greedy}
-use Rattle.forests.specs.Plans.{InPlay, OfRank, RoundMeets}
-use Rattle.forests.specs.Faults.{Beside, Tied, Earliest, StationGood, EndsJoined}
-use Rattle.forests.proofs.Hops.{tied-or-not, firstBeside, Searched, searched, earliest-one}
-use Rattle.forests.proofs.Orders.{position-order, position-below, order-position, position-one}
-use Rattle.forests.proofs.Trees.{tree, ranked-tied, arrows, root-joined, joined-tree}
+use Rattle.plans.specs.Checking.{positionOf}
+use Rattle.plans.specs.Published.{Arrow, Rooted, Parent, Parent.above, Parent.itself, Greedy}
+use Rattle.plans.specs.Plans.{InPlay, OfRank, RoundMeets}
+use Rattle.plans.specs.Faults.{Beside, Tied, Earliest, StationGood, EndsJoined}
+use Rattle.plans.proofs.Hops.{tied-or-not, firstBeside, Searched, searched, earliest-one}
+use Rattle.plans.proofs.Orders.{position-order, position-below, order-position, position-one}
+use Rattle.plans.proofs.Trees.{tree, ranked-tied, arrows, root-joined, joined-tree}
 
 -- Round i without a fault.
 pub record RoundGood (n : ℕ) (lines ranks : List ℕ) (i : ℕ) (order : List ℕ) : Type 0 where

@@ -15,12 +15,12 @@ use Rattle.network.specs.Lines.{network, Proper}
 use Rattle.network.specs.Chains.{Hop, Chain, Chain.here, Every}
 use Rattle.network.specs.Orders.{EachOnce}
 use Rattle.network.proofs.Chains.{hop-back, hop-in, chain-join, chain-hop, chain-back, chain-map, chain-keeps}
-use Rattle.forests.specs.Checking.{positionOf, addTree, treesOf}
-use Rattle.forests.specs.Published.{Arrow}
-use Rattle.forests.specs.Plans.{OfRank}
-use Rattle.forests.specs.Faults.{Beside, Tied, Earliest, StationGood}
-use Rattle.forests.proofs.Hops.{firstBeside, Searched, searched, earliest-one}
-use Rattle.forests.proofs.Orders.{position-order, position-below, order-position}
+use Rattle.plans.specs.Checking.{positionOf, addTree, treesOf}
+use Rattle.plans.specs.Published.{Arrow}
+use Rattle.plans.specs.Plans.{OfRank}
+use Rattle.plans.specs.Faults.{Beside, Tied, Earliest, StationGood}
+use Rattle.plans.proofs.Hops.{firstBeside, Searched, searched, earliest-one}
+use Rattle.plans.proofs.Orders.{position-order, position-below, order-position}
 
 -- The last entry, after j others.
 last-at : (front : List ℕ) (v j : ℕ) → length front ≡ j → getD (front ++ (v ∷ [])) j 0 ≡ v

@@ -2,7 +2,7 @@
 -- The idea: the stations among the first j entries are counted, and there are j of them. Assumes nothing.
 use Prim.Native.Nat.{ℕ, zero, suc, _*_, _<_, _≤_}
 use mathlib.Core.Path.{_≡_, refl, sym, _∙_}
-use mathlib.Core.Bool.{Bool, true, false, _||_}
+use mathlib.Core.Bool.{Bool, true, false, _||_, or-false, or-true}
 use mathlib.Core.List.{List}
 use mathlib.Core.Logic.{_≢_}
 use native.Mathlib.Decide.{decLt}
@@ -18,19 +18,13 @@ use Rattle.laws.proofs.Count.{count-none, count-full, count-one-more}
 use Rattle.laws.proofs.Fold.{first-last, first-at, any-some, any-more}
 use Rattle.laws.proofs.Lists.{part-fits}
 use Rattle.network.specs.Orders.{EachOnce}
-use Rattle.network.proofs.Ends.{or-true}
-use Rattle.forests.specs.Checking.{positionOf, orderOf}
-use Rattle.forests.specs.Faults.{EntryGood}
+use Rattle.plans.specs.Checking.{positionOf, orderOf}
+use Rattle.plans.specs.Faults.{EntryGood}
 
 -- A round's order has n entries, if the plan has room for it.
 pub order-size : (n k : ℕ) (orders : List ℕ) (i : ℕ) → k * n ≤ length orders → i < k → length (orderOf n orders i) ≡ n
 unfolding orderOf
 order-size n k orders i room h = length-take-le n (drop (i * n) orders) (simp length-drop (omega (arith, part-fits i k n h)))
-
--- Two tests of which the second fails.
-or-false : (x : Bool) → (x || false) ≡ x
-or-false true = refl
-or-false false = refl
 
 module _ (n : ℕ) (order : List ℕ) where
   -- whether v is among the first j entries

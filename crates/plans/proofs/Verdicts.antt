@@ -2,7 +2,7 @@
 -- Assumes nothing.
 use mathlib.Core.Path.{_≡_, refl, sym}
 use mathlib.Core.Bool.{true, false, true≢false}
-use Rattle.forests.specs.Verdicts.{Verdict, Verdict.accepted, Verdict.faulty, _orElse_, isFaulty}
+use Rattle.plans.specs.Verdicts.{Verdict, Verdict.accepted, Verdict.faulty, _orElse_, isFaulty}
 
 pub or-faulty : (first next : Verdict) → isFaulty first ≡ true → (first orElse next) ≡ first
 or-faulty accepted next e = absurd (true≢false (sym e))

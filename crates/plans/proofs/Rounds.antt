@@ -12,14 +12,14 @@ use Rattle.laws.proofs.Decide.{dec-and, dec-not, some-below}
 use Rattle.laws.proofs.Fold.{first-last, first-all, first-at}
 use Rattle.network.specs.Lines.{network, Proper}
 use Rattle.network.specs.Orders.{EachOnce}
-use Rattle.forests.specs.Verdicts.{Kind, Kind.B, Kind.C, Kind.D, Kind.E, Verdict.accepted, Verdict.faulty, isFaulty}
-use Rattle.forests.specs.Checking.{inPlay, entryVerdict, orderVerdict, stationVerdict, stationsVerdict, lineVerdict, linesVerdict, roundVerdict}
-use Rattle.forests.specs.Plans.{InPlay}
-use Rattle.forests.specs.Faults.{EntryGood, EntryFault, EntryFault.outside, EntryFault.stood, Beside, Tied, Earliest, StationGood, StationFault, StationFault.parent, StationFault.other, EndsJoined, RoundFault, RoundFault.entry, RoundFault.station, RoundFault.line}
-use Rattle.forests.proofs.Hops.{in-play, play-in, tied-or-not, firstBeside, Searched, searched, earliest-one}
-use Rattle.forests.proofs.Orders.{good-each-once, each-once-good}
-use Rattle.forests.proofs.Greedy.{RoundGood, ranked-playing}
-use Rattle.forests.proofs.Faults.{entry-accepted, entry-faulty, station-accepted, station-faulty, joined-or-not, line-accepted, line-faulty}
+use Rattle.plans.specs.Verdicts.{Kind, Kind.B, Kind.C, Kind.D, Kind.E, Verdict.accepted, Verdict.faulty, isFaulty}
+use Rattle.plans.specs.Checking.{inPlay, entryVerdict, orderVerdict, stationVerdict, stationsVerdict, lineVerdict, linesVerdict, roundVerdict}
+use Rattle.plans.specs.Plans.{InPlay}
+use Rattle.plans.specs.Faults.{EntryGood, EntryFault, EntryFault.outside, EntryFault.stood, Beside, Tied, Earliest, StationGood, StationFault, StationFault.parent, StationFault.other, EndsJoined, RoundFault, RoundFault.entry, RoundFault.station, RoundFault.line}
+use Rattle.plans.proofs.Hops.{in-play, play-in, tied-or-not, firstBeside, Searched, searched, earliest-one}
+use Rattle.plans.proofs.Orders.{good-each-once, each-once-good}
+use Rattle.plans.proofs.Greedy.{RoundGood, ranked-playing}
+use Rattle.plans.proofs.Faults.{entry-accepted, entry-faulty, station-accepted, station-faulty, joined-or-not, line-accepted, line-faulty}
 
 -- Of things that are each good or at fault: all below m are good, or there is a first one at fault.
 pub all-or-first : (Good Fault : ℕ → Type 0) (m : ℕ) → ((j : ℕ) → j < m → Good j ⊎ Fault j)

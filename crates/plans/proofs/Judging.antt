@@ -13,7 +13,7 @@ use Rattle.network.proofs.Judging.{stations-good, length-good}
 use Rattle.network.proofs.Sound.{lines-only, taken-sound}
 use Rattle.request.specs.Judging.{levelJudged, roomJudged}
 use Rattle.request.proofs.Judging.{level-good}
-use Rattle.forests.specs.Checking.{planJudged}
+use Rattle.plans.specs.Checking.{planJudged}
 
 pub within-good : (list n : ℕ) (lines : List ℕ) → isRefused (stationsJudged n) ≡ false → isRefused (lengthJudged list lines) ≡ false → Within n lines
 within-good list n lines e f =

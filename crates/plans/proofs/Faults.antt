@@ -2,7 +2,7 @@
 -- Assumes nothing.
 use Prim.Native.Nat.{ℕ, _/_, _<_, _≤_}
 use mathlib.Core.Path.{_≡_, refl, sym}
-use mathlib.Core.Bool.{Bool, true, false, not, _&&_}
+use mathlib.Core.Bool.{Bool, true, false, not, _&&_, and-false, or-true}
 use mathlib.Core.List.{List}
 use mathlib.Core.Logic.{_⊎_.inl, _⊎_.inr}
 use native.Mathlib.Decide.{ℕ-discrete}
@@ -14,18 +14,12 @@ use Rattle.laws.specs.Fold.{anyFrom}
 use Rattle.laws.proofs.Fold.{first-last, some-any}
 use Rattle.network.specs.Lines.{endOne, endTwo, network, Proper}
 use Rattle.network.specs.Orders.{EachOnce}
-use Rattle.network.proofs.Ends.{or-true}
-use Rattle.forests.specs.Verdicts.{Kind, Kind.A, Kind.B, Kind.C, Kind.D, Kind.E, Verdict.accepted, Verdict.faulty}
-use Rattle.forests.specs.Checking.{inPlay, rankVerdict, entryVerdict, hasParent, hasOther, parentVerdict, otherVerdict, stationVerdict, positionOf, lineVerdict}
-use Rattle.forests.specs.Plans.{InPlay}
-use Rattle.forests.specs.Faults.{EntryGood, EntryFault, EntryFault.outside, EntryFault.stood, Beside, Tied, Earliest, StationGood, StationFault, StationFault.parent, StationFault.other, EndsJoined}
-use Rattle.forests.proofs.Hops.{in-play, play-in, linked-tied, tied-linked, isTied, firstBeside, Searched, searched, earliest-one}
-use Rattle.forests.proofs.Trees.{tree, joined-tree, tree-joined}
-
--- Two tests of which the second fails.
-and-false : (x : Bool) → (x && false) ≡ false
-and-false true = refl
-and-false false = refl
+use Rattle.plans.specs.Verdicts.{Kind, Kind.A, Kind.B, Kind.C, Kind.D, Kind.E, Verdict.accepted, Verdict.faulty}
+use Rattle.plans.specs.Checking.{inPlay, rankVerdict, entryVerdict, hasParent, hasOther, parentVerdict, otherVerdict, stationVerdict, positionOf, lineVerdict}
+use Rattle.plans.specs.Plans.{InPlay}
+use Rattle.plans.specs.Faults.{EntryGood, EntryFault, EntryFault.outside, EntryFault.stood, Beside, Tied, Earliest, StationGood, StationFault, StationFault.parent, StationFault.other, EndsJoined}
+use Rattle.plans.proofs.Hops.{in-play, play-in, linked-tied, tied-linked, isTied, firstBeside, Searched, searched, earliest-one}
+use Rattle.plans.proofs.Trees.{tree, joined-tree, tree-joined}
 
 -- ── A ──
 

@@ -10,7 +10,7 @@ use Rattle.kinds.specs.Answers.{Answer, Answer.given, _andThen_}
 use Rattle.network.specs.Lines.{endOne, endTwo}
 use Rattle.network.specs.Judging.{sameEnds, stationsJudged, lengthJudged, linesJudged}
 use Rattle.request.specs.Judging.{levelJudged, roomJudged, planShort}
-use Rattle.forests.specs.Verdicts.{Kind.A, Kind.B, Kind.C, Kind.D, Kind.E, Verdict, Verdict.accepted, faultIf, _orElse_, isFaulty}
+use Rattle.plans.specs.Verdicts.{Kind.A, Kind.B, Kind.C, Kind.D, Kind.E, Verdict, Verdict.accepted, faultIf, _orElse_, isFaulty}
 
 -- In round i the lines in play are those of rank 0 or at least i.
 unfoldable pub inPlay : List ℕ → ℕ → ℕ → Bool

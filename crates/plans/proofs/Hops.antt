@@ -2,7 +2,7 @@
 -- Assumes nothing.
 use Prim.Native.Nat.{ℕ, _/_, _<_}
 use mathlib.Core.Path.{_≡_, refl, sym, _∙_}
-use mathlib.Core.Bool.{Bool, true, false, _&&_, true≢false}
+use mathlib.Core.Bool.{Bool, true, false, _&&_, true≢false, or-true}
 use mathlib.Core.List.{List}
 use mathlib.Core.Logic.{_⊎_, _⊎_.inl, _⊎_.inr}
 use native.Mathlib.Decide.{decLt}
@@ -14,11 +14,11 @@ use Rattle.laws.proofs.Fold.{FoundAt, FoundNone, first-cases, any-some, some-an
 use Rattle.network.specs.Lines.{endOne, endTwo, network}
 use Rattle.network.specs.Chains.{Hop, Hop.by}
 use Rattle.network.specs.Judging.{sameEnds}
-use Rattle.network.proofs.Ends.{both-true, either-true, or-true}
 use Rattle.network.proofs.Sound.{joins-same, same-joins}
-use Rattle.forests.specs.Checking.{inPlay, ofRank, linked, earliest}
-use Rattle.forests.specs.Plans.{InPlay, OfRank}
-use Rattle.forests.specs.Faults.{Beside, Tied, Earliest}
+use Rattle.plans.specs.Checking.{inPlay, ofRank, linked, earliest}
+use Rattle.plans.specs.Plans.{InPlay, OfRank}
+use Rattle.plans.specs.Faults.{Beside, Tied, Earliest}
+use Rattle.laws.proofs.Truth.{both-true, either-true}
 
 -- A line's test of rank, and what it says.
 module _ (ranks : List ℕ) (i p : ℕ) where

@@ -8,17 +8,16 @@ use mathlib.Core.Logic.{_⊎_, _⊎_.inl, _⊎_.inr}
 use native.Mathlib.Decide.{decLe}
 use native.Mathlib.Omega.{arith}
 use lib.ListN.{length, getD}
-use Rattle.laws.specs.Fold.{firstFrom}
 use Rattle.laws.proofs.Fold.{first-last, first-at}
 use Rattle.network.specs.Faults.{Sound}
-use Rattle.forests.specs.Verdicts.{Kind, Kind.A, Verdict, Verdict.accepted, Verdict.faulty, isFaulty}
-use Rattle.forests.specs.Checking.{rankVerdict, ranksVerdict, roundVerdict, orderOf, planVerdict, roundsVerdict}
-use Rattle.forests.specs.Plans.{RoundMeets, PlanMeets}
-use Rattle.forests.specs.Faults.{RoundFault, FirstFault, FirstFault.rank, FirstFault.round}
-use Rattle.forests.proofs.Orders.{order-size}
-use Rattle.forests.proofs.Greedy.{good-meets, meets-good}
-use Rattle.forests.proofs.Faults.{rank-accepted, rank-faulty}
-use Rattle.forests.proofs.Rounds.{all-or-first, RoundCases, round-cases, good-accepted, round-faulty}
+use Rattle.plans.specs.Verdicts.{Kind, Kind.A, Verdict, Verdict.accepted, Verdict.faulty, isFaulty}
+use Rattle.plans.specs.Checking.{rankVerdict, ranksVerdict, roundVerdict, orderOf, planVerdict, roundsVerdict}
+use Rattle.plans.specs.Plans.{RoundMeets, PlanMeets}
+use Rattle.plans.specs.Faults.{RoundFault, FirstFault, FirstFault.rank, FirstFault.round}
+use Rattle.plans.proofs.Orders.{order-size}
+use Rattle.plans.proofs.Greedy.{good-meets, meets-good}
+use Rattle.plans.proofs.Faults.{rank-accepted, rank-faulty}
+use Rattle.plans.proofs.Rounds.{all-or-first, RoundCases, round-cases, good-accepted, round-faulty}
 
 -- ── a round ──
 
@@ -67,23 +66,25 @@ module _ (n k : ℕ) (lines ranks orders : List ℕ) where
     abbrev said : ℕ → Verdict
     said i = roundVerdict n lines ranks (i + 1) (orderOf n orders i)
 
-    rounds-accepted : ((i : ℕ) → i < k → RoundMeets n lines ranks (i + 1) (orderOf n orders i)) → firstFrom isFaulty said accepted 0 k ≡ accepted
+    rounds-accepted : ((i : ℕ) → i < k → RoundMeets n lines ranks (i + 1) (orderOf n orders i)) → roundsVerdict n k lines ranks orders ≡ accepted
+    unfolding roundsVerdict
     rounds-accepted meets = first-last isFaulty said accepted k (λ i l. rw (round-meets-accepted n lines ranks (i + 1) (orderOf n orders i) s (meets i l)))
 
     rounds-faulty : {kind : Kind} {place : ℕ} (i : ℕ) → i < k → ((h : ℕ) → h < i → RoundMeets n lines ranks (h + 1) (orderOf n orders h))
-        → RoundFault n lines ranks (i + 1) (orderOf n orders i) kind place → firstFrom isFaulty said accepted 0 k ≡ faulty (i + 1) kind place
+        → RoundFault n lines ranks (i + 1) (orderOf n orders i) kind place → roundsVerdict n k lines ranks orders ≡ faulty (i + 1) kind place
+    unfolding roundsVerdict
     rounds-faulty i l before f =
         let bad = round-faulty n lines ranks (i + 1) (orderOf n orders i) (s .simple .proper) f in
         first-at isFaulty said accepted k i l (rw bad) (λ h m. rw (round-meets-accepted n lines ranks (h + 1) (orderOf n orders h) s (before h m))) ∙ bad
 
     -- THEOREM. A plan that meets the definition is accepted.
     pub meets-accepted : PlanMeets n k lines ranks orders → planVerdict n k lines ranks orders ≡ accepted
-    unfolding planVerdict roundsVerdict
+    unfolding planVerdict
     meets-accepted M = rw (ranks-accepted (M .ranks-most), rounds-accepted (M .rounds))
 
     -- THEOREM. The first fault of a plan is what the check says of it.
     pub fault-faulty : {r : ℕ} {kind : Kind} {place : ℕ} → FirstFault n k lines ranks orders r kind place → planVerdict n k lines ranks orders ≡ faulty r kind place
-    unfolding planVerdict roundsVerdict
+    unfolding planVerdict
     fault-faulty (rank p l before h) = rw (ranks-faulty p l before h)
     fault-faulty (round most i l before f) = rw (ranks-accepted most, rounds-faulty i l before f)
 

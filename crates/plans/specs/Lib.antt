@@ -1,0 +1,5 @@
+pub mod Verdicts
+pub mod Checking
+pub mod Published
+pub mod Plans
+pub mod Faults
