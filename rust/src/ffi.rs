@@ -1,5 +1,7 @@
 //! The boundary: the only `unsafe` of the crate. Each function lends its slices for the call and no longer.
 
+use crate::answers::Contents;
+
 extern "C" {
     fn tapuhzel_judge(n: usize, lines: *const u16, lines_len: usize, place: *mut usize, list: *mut u8) -> u8;
     #[allow(clippy::too_many_arguments)]
@@ -72,6 +74,52 @@ extern "C" {
         place: *mut usize,
         list: *mut u8,
     ) -> u8;
+    #[allow(clippy::too_many_arguments)]
+    fn tapuhzel_weak(
+        n: usize,
+        level: usize,
+        lines: *const u16,
+        lines_len: usize,
+        weak: *mut u8,
+        size: *mut u8,
+        first: *mut u16,
+        second: *mut u16,
+        one: *mut u16,
+        two: *mut u16,
+        place: *mut usize,
+        list: *mut u8,
+    ) -> u8;
+    #[allow(clippy::too_many_arguments)]
+    fn tapuhzel_read(
+        bytes: *const u8,
+        bytes_len: usize,
+        lines: *mut u16,
+        lines_len: usize,
+        starts: *mut u16,
+        starts_len: usize,
+        n: *mut usize,
+        level: *mut usize,
+        m: *mut usize,
+        s: *mut usize,
+        place: *mut usize,
+        list: *mut u8,
+    ) -> u8;
+    #[allow(clippy::too_many_arguments)]
+    fn tapuhzel_write(
+        n: usize,
+        level: usize,
+        lines: *const u16,
+        lines_len: usize,
+        starts: *const u16,
+        starts_len: usize,
+        bytes: *mut u8,
+        bytes_len: usize,
+        count: *mut usize,
+        place: *mut usize,
+        list: *mut u8,
+    ) -> u8;
+    fn tapuhzel_keep_text(bytes: *const u8, bytes_len: usize, text: *mut u8, text_len: usize, count: *mut usize) -> u8;
+    fn tapuhzel_weak_text(bytes: *const u8, bytes_len: usize, text: *mut u8, text_len: usize, count: *mut usize) -> u8;
 }
 
 /// A routine's number, place and list, as `include/tapuhzel.h` encodes them.
@@ -166,4 +214,79 @@ pub(crate) fn joined(n: usize, lines: &[u16], away: &[u16], one: u16, two: u16) 
         tapuhzel_joined(n, lines.as_ptr(), lines.len(), away.as_ptr(), away.len(), one, two, &mut joined, place, list)
     });
     (joined == 1, said)
+}
+
+/// What the search for a weak spot found: whether there is one, its size and stations, and the two that it parts.
+#[derive(Default)]
+pub(crate) struct Parted {
+    pub weak: u8,
+    pub size: u8,
+    pub first: u16,
+    pub second: u16,
+    pub one: u16,
+    pub two: u16,
+}
+
+pub(crate) fn weak(n: usize, level: usize, lines: &[u16]) -> (Parted, Said) {
+    let mut parted = Parted::default();
+    let Parted { weak, size, first, second, one, two } = &mut parted;
+    let said = said(|place, list| unsafe {
+        tapuhzel_weak(n, level, lines.as_ptr(), lines.len(), weak, size, first, second, one, two, place, list)
+    });
+    (parted, said)
+}
+
+pub(crate) fn read(bytes: &[u8], lines: &mut [u16], starts: &mut [u16]) -> (Contents, Said) {
+    let mut found = Contents { stations: 0, level: 0, lines: 0, starts: 0 };
+    let said = said(|place, list| unsafe {
+        tapuhzel_read(
+            bytes.as_ptr(),
+            bytes.len(),
+            lines.as_mut_ptr(),
+            lines.len(),
+            starts.as_mut_ptr(),
+            starts.len(),
+            &mut found.stations,
+            &mut found.level,
+            &mut found.lines,
+            &mut found.starts,
+            place,
+            list,
+        )
+    });
+    (found, said)
+}
+
+pub(crate) fn write(n: usize, level: usize, lines: &[u16], starts: &[u16], bytes: &mut [u8]) -> (usize, Said) {
+    let mut count = 0;
+    let said = said(|place, list| unsafe {
+        tapuhzel_write(
+            n,
+            level,
+            lines.as_ptr(),
+            lines.len(),
+            starts.as_ptr(),
+            starts.len(),
+            bytes.as_mut_ptr(),
+            bytes.len(),
+            &mut count,
+            place,
+            list,
+        )
+    });
+    (count, said)
+}
+
+/// How many bytes of text were written; none where the room is too short.
+pub(crate) fn keep_text(bytes: &[u8], text: &mut [u8]) -> usize {
+    let mut count = 0;
+    unsafe { tapuhzel_keep_text(bytes.as_ptr(), bytes.len(), text.as_mut_ptr(), text.len(), &mut count) };
+    count
+}
+
+/// How many bytes of text were written; none where the room is too short.
+pub(crate) fn weak_text(bytes: &[u8], text: &mut [u8]) -> usize {
+    let mut count = 0;
+    unsafe { tapuhzel_weak_text(bytes.as_ptr(), bytes.len(), text.as_mut_ptr(), text.len(), &mut count) };
+    count
 }

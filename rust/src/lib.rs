@@ -2,168 +2,14 @@
 //!
 //! Every input is taken or refused by a numbered reason and a place; no call panics.
 
+mod answers;
+mod decode;
 mod ffi;
 pub mod listing;
 pub mod second;
 
-/// The place of a line in its list, counted from 0.
-#[derive(Clone, Copy, Debug, PartialEq, Eq, PartialOrd, Ord)]
-pub struct Place(pub u16);
-
-/// The number of a round, 1 to k.
-#[derive(Clone, Copy, Debug, PartialEq, Eq, PartialOrd, Ord)]
-pub struct Round(pub u8);
-
-/// The number of a station, 0 to n - 1.
-#[derive(Clone, Copy, Debug, PartialEq, Eq, PartialOrd, Ord)]
-pub struct Station(pub u16);
-
-/// A position in a round's order, counted from 0.
-#[derive(Clone, Copy, Debug, PartialEq, Eq, PartialOrd, Ord)]
-pub struct Position(pub u16);
-
-/// What is wrong with a plan: a kind of the document's table, with its own place.
-#[derive(Clone, Copy, Debug, PartialEq, Eq)]
-pub enum FaultKind {
-    /// A: a line's rank is above k.
-    RankAbove(Place),
-    /// B: the round's entries are not each station once.
-    NotEachOnce(Position),
-    /// C: a station's line to the earliest of its earlier neighbours in play lacks the round's rank.
-    ParentLacking(Station),
-    /// D: a station has a line of the round's rank to another earlier station.
-    OtherParent(Station),
-    /// E: a line in play has its ends in different trees.
-    TreesApart(Place),
-}
-
-/// A fault, in its round; A has round 0.
-#[derive(Clone, Copy, Debug, PartialEq, Eq)]
-pub struct Fault {
-    pub round: Round,
-    pub kind: FaultKind,
-}
-
-/// What the check of forests finds: nothing wrong, or the first fault.
-#[derive(Clone, Copy, Debug, PartialEq, Eq)]
-pub enum Verdict {
-    Accepted,
-    Faulty(Fault),
-}
-
-/// Which line list a refusal speaks of: the only one, or the first or the second of a union.
-#[derive(Clone, Copy, Debug, PartialEq, Eq)]
-pub enum LineList {
-    Only,
-    First,
-    Second,
-}
-
-/// Which of the two stations that were asked about.
-#[derive(Clone, Copy, Debug, PartialEq, Eq)]
-pub enum Asked {
-    First,
-    Second,
-}
-
-/// Why an input is refused, and where.
-#[derive(Clone, Copy, Debug, PartialEq, Eq)]
-pub enum Refusal {
-    /// 1: n is not 1 to 1,024.
-    StationCount,
-    /// 2: the line list has an odd length or over 16,384 numbers.
-    LineCount(LineList),
-    /// 3: k is not 1 to 16.
-    LevelRange,
-    /// 4: the number of starting stations is not k.
-    StartCount,
-    /// 5: a lent buffer is shorter than needed.
-    Room,
-    /// 6: a line end is n or more.
-    EndOutside(LineList, Place),
-    /// 7: a line's ends are equal.
-    EndsEqual(LineList, Place),
-    /// 8: the same two ends, either way round, stood earlier.
-    StoodEarlier(LineList, Place),
-    /// 9: a starting station is n or more.
-    StartOutside(Round),
-    /// 10: the taken-away list is not strictly rising, or has a number n or more.
-    TakenAway(Position),
-    /// 11: an asked station is n or more, or taken away.
-    AskedStation(Asked),
-    /// 13: the union has over 8,192 lines.
-    UnionCount,
-}
-
-impl Refusal {
-    /// The number of the document's row.
-    pub fn number(self) -> u8 {
-        match self {
-            Refusal::StationCount => 1,
-            Refusal::LineCount(_) => 2,
-            Refusal::LevelRange => 3,
-            Refusal::StartCount => 4,
-            Refusal::Room => 5,
-            Refusal::EndOutside(..) => 6,
-            Refusal::EndsEqual(..) => 7,
-            Refusal::StoodEarlier(..) => 8,
-            Refusal::StartOutside(_) => 9,
-            Refusal::TakenAway(_) => 10,
-            Refusal::AskedStation(_) => 11,
-            Refusal::UnionCount => 13,
-        }
-    }
-
-    /// The place that the document gives with the number: a line's place, a round or an index, else 0.
-    pub fn place(self) -> usize {
-        match self {
-            Refusal::EndOutside(_, Place(place)) | Refusal::EndsEqual(_, Place(place)) | Refusal::StoodEarlier(_, Place(place)) => place.into(),
-            Refusal::StartOutside(Round(round)) => round.into(),
-            Refusal::TakenAway(Position(position)) => position.into(),
-            Refusal::AskedStation(Asked::Second) => 1,
-            _ => 0,
-        }
-    }
-
-    /// The number of the list that the refusal speaks of: 1 or 2 of a union, else 0.
-    pub fn list(self) -> u8 {
-        match self {
-            Refusal::LineCount(list) | Refusal::EndOutside(list, _) | Refusal::EndsEqual(list, _) | Refusal::StoodEarlier(list, _) => list as u8,
-            _ => 0,
-        }
-    }
-}
-
-/// The refusal of a number, a place and a list, as the routines here give them.
-fn refusal(said: ffi::Said) -> Refusal {
-    let place = Place(said.place as u16);
-    let list = match said.list {
-        0 => LineList::Only,
-        1 => LineList::First,
-        2 => LineList::Second,
-        list => unreachable!("no routine here speaks of a list {list}"),
-    };
-    match said.number {
-        1 => Refusal::StationCount,
-        2 => Refusal::LineCount(list),
-        3 => Refusal::LevelRange,
-        4 => Refusal::StartCount,
-        5 => Refusal::Room,
-        6 => Refusal::EndOutside(list, place),
-        7 => Refusal::EndsEqual(list, place),
-        8 => Refusal::StoodEarlier(list, place),
-        9 => Refusal::StartOutside(Round(said.place as u8)),
-        10 => Refusal::TakenAway(Position(said.place as u16)),
-        11 => Refusal::AskedStation(if said.place == 0 { Asked::First } else { Asked::Second }),
-        13 => Refusal::UnionCount,
-        number => unreachable!("no routine here refuses by {number}"),
-    }
-}
-
-/// What a routine answers: its value, unless it refused.
-fn answer<T>(value: T, said: ffi::Said) -> Result<T, Refusal> {
-    if said.number == 0 { Ok(value) } else { Err(refusal(said)) }
-}
+pub use answers::*;
+use decode::{answer, standing, verdict};
 
 /// Whether a network of `n` stations and a flat list of line ends is taken.
 ///
@@ -190,21 +36,6 @@ pub fn judge(n: usize, lines: &[u16]) -> Result<(), Refusal> {
 pub fn prune(n: usize, level: usize, lines: &[u16], starts: &[u16], ranks: &mut [u8], orders: &mut [u16]) -> Result<usize, Refusal> {
     let (kept, said) = ffi::prune(n, level, lines, starts, ranks, orders);
     answer(kept, said)
-}
-
-/// The verdict of a kind's number, a round and a place.
-fn verdict(found: ffi::Found) -> Verdict {
-    let at = found.at as u16;
-    let kind = match found.kind {
-        0 => return Verdict::Accepted,
-        1 => FaultKind::RankAbove(Place(at)),
-        2 => FaultKind::NotEachOnce(Position(at)),
-        3 => FaultKind::ParentLacking(Station(at)),
-        4 => FaultKind::OtherParent(Station(at)),
-        5 => FaultKind::TreesApart(Place(at)),
-        number => unreachable!("no fault has the number {number}"),
-    };
-    Verdict::Faulty(Fault { round: Round(found.round), kind })
 }
 
 /// Whether ranks and orders from anywhere are scan-first forests of a network at a level, or what the first fault is.
@@ -255,4 +86,77 @@ pub fn unite(n: usize, first: &[u16], second: &[u16], room: &mut [u16]) -> Resul
 pub fn joined(n: usize, lines: &[u16], away: &[u16], one: Station, two: Station) -> Result<bool, Refusal> {
     let (joined, said) = ffi::joined(n, lines, away, one.0, two.0);
     answer(joined, said)
+}
+
+/// Whether a network stands at a level from 1 to 3, or the fewest stations, fewer than the level, that part two others.
+///
+/// ```
+/// use tapuhzel::{weak, Spot, Standing, Station, WeakSpot};
+/// let path = WeakSpot { spot: Spot::One(Station(1)), one: Station(0), two: Station(2) };
+/// assert_eq!(weak(3, 1, &[0, 1, 1, 2]), Ok(Standing::Stands));
+/// assert_eq!(weak(3, 2, &[0, 1, 1, 2]), Ok(Standing::Weak(path)));
+/// ```
+pub fn weak(n: usize, level: usize, lines: &[u16]) -> Result<Standing, Refusal> {
+    let (parted, said) = ffi::weak(n, level, lines);
+    answer(standing(parted), said)
+}
+
+/// Reads a network file: its lines and starting stations go to the fronts of `lines`, at least 16,384 numbers, and
+/// `starts`, at least 16. The network is not judged. A refused call changes no buffer.
+///
+/// ```
+/// let (mut lines, mut starts) = ([0; 16_384], [0; 16]);
+/// let mut file = [0; 100];
+/// let length = tapuhzel::write(3, 1, &[0, 1, 1, 2], &[2], &mut file).unwrap();
+/// let found = tapuhzel::read(&file[..length], &mut lines, &mut starts).unwrap();
+/// assert_eq!((found.stations, found.level, found.lines, found.starts), (3, 1, 2, 1));
+/// assert_eq!((&lines[..4], starts[0]), (&[0, 1, 1, 2][..], 2));
+/// ```
+pub fn read(bytes: &[u8], lines: &mut [u16], starts: &mut [u16]) -> Result<Contents, Refusal> {
+    let (contents, said) = ffi::read(bytes, lines, starts);
+    answer(contents, said)
+}
+
+/// Writes a network as a file from the front of `bytes`, and says how many bytes it has. A refused call changes nothing.
+///
+/// ```
+/// let mut file = [9; 20];
+/// assert_eq!(tapuhzel::write(2, 1, &[0, 1], &[0], &mut file), Ok(20));
+/// assert_eq!(&file, b"NW\x02\0\x01\0LN\0\0\x01\0RT\0\0EN\x01\0");
+/// ```
+pub fn write(n: usize, level: usize, lines: &[u16], starts: &[u16], bytes: &mut [u8]) -> Result<usize, Refusal> {
+    let (count, said) = ffi::write(n, level, lines, starts, bytes);
+    answer(count, said)
+}
+
+/// No text of `keep` is longer.
+const KEEP_ROOM: usize = 524_416;
+
+/// No text of `weak` is longer.
+const WEAK_ROOM: usize = 256;
+
+/// What the program `keep` writes of a file's bytes.
+///
+/// ```
+/// assert_eq!(tapuhzel::keep_text(b""), "refused 21 at 0\n");
+/// ```
+pub fn keep_text(bytes: &[u8]) -> String {
+    text(KEEP_ROOM, |room| ffi::keep_text(bytes, room))
+}
+
+/// What the program `weak` writes of a file's bytes.
+///
+/// ```
+/// let file = b"NW\x02\0\x01\0LN\0\0\x01\0RT\0\0EN\x01\0";
+/// assert_eq!(tapuhzel::weak_text(file), "stations 2 level 1 lines 1\nstands\n");
+/// ```
+pub fn weak_text(bytes: &[u8]) -> String {
+    text(WEAK_ROOM, |room| ffi::weak_text(bytes, room))
+}
+
+/// The text that a call writes into enough room.
+fn text(room: usize, call: impl FnOnce(&mut [u8]) -> usize) -> String {
+    let mut bytes = vec![0; room];
+    let count = call(&mut bytes);
+    String::from_utf8_lossy(&bytes[..count]).into_owned()
 }

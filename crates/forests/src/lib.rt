@@ -10,7 +10,7 @@ use kinds::Position;
 use kinds::Refusal;
 use kinds::Round;
 use kinds::Station;
-use kinds::is_refused;
+use kinds::first_refusal;
 use network::judge_length;
 use network::judge_list;
 use network::judge_stations;
@@ -180,23 +180,10 @@ fn check_plan(level: Level, n: usize, lines: &[u16], ranks: &[u8], orders: &[u16
 fn judge_plan(n: usize, level: Level, lines: &[u16], short: bool) -> Judged
     ensures answer { λ r. ⌜ judgedAnswer r ≡ planJudged n (level .0) (now (lines .entry)) short ⌝ }
 {
-    let stations = judge_stations(n);
-    if is_refused(stations) {
-        return stations;
-    }
-    let length = judge_length(LineList::Only, lines);
-    if is_refused(length) {
-        return length;
-    }
-    let levels = judge_level(level);
-    if is_refused(levels) {
-        return levels;
-    }
-    let room = judge_room(short);
-    if is_refused(room) {
-        return room;
-    }
-    judge_list(LineList::Only, n, lines)
+    let sizes = first_refusal(judge_level(level), judge_room(short));
+    let lists = first_refusal(judge_length(LineList::Only, lines), sizes);
+    let counts = first_refusal(judge_stations(n), lists);
+    first_refusal(counts, judge_list(LineList::Only, n, lines))
 }
 
 // The check of forests, over ranks and orders from anywhere.

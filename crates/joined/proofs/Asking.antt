@@ -15,7 +15,7 @@ use Rattle.laws.specs.Fold.{anyFrom}
 use Rattle.laws.proofs.Fold.{FoundAt, FoundNone, first-cases, first-all, first-last, first-at, any-some, some-any, any-more}
 use Rattle.laws.proofs.Lists.{replicate-at}
 use Rattle.kinds.specs.Answers.{Answer, Answer.given, Answer.refused, taken, refuseIf, _andThen_, isRefused}
-use Rattle.kinds.proofs.Answers.{then-both, taken-is, passed}
+use Rattle.kinds.proofs.Answers.{then-both, taken-is, passed, then-group}
 use Rattle.network.specs.Judging.{listJudged}
 use Rattle.network.specs.Faults.{Sound}
 use Rattle.network.proofs.Sound.{taken-sound}
@@ -25,11 +25,6 @@ use Rattle.joined.specs.Rising.{Rising, RisesAt, FirstUnrisen}
 use Rattle.joined.specs.Asking.{awayJudged, allAwayJudged, askedJudged}
 use Rattle.joined.specs.Marks.{isGone, Unmarked, Gone}
 use Rattle.laws.proofs.Truth.{neither}
-
--- Tries in order are one after the other, however they are grouped.
-then-group : {A : Type 0} (a b : Answer (Unit {0})) (c : Answer A) → (a andThen b) andThen c ≡ a andThen (b andThen c)
-then-group (given x) b c = refl
-then-group (refused number place list) b c = refl
 
 -- The first two of three tries refuse, or are taken.
 pub then-refusal : {A : Type 0} (a b : Answer (Unit {0})) (c : Answer A) {number place list : ℕ} → a andThen b ≡ refused number place list

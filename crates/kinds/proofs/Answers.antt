@@ -30,6 +30,21 @@ pub passed : (b : Bool) (number place list : ℕ) → isRefused (refuseIf b numb
 passed true number place list e = absurd (true≢false e)
 passed false number place list e = refl
 
+-- Tries in order are one after the other, however they are grouped.
+pub then-group : {A : Type 0} (a b : Answer (Unit {0})) (c : Answer A) → (a andThen b) andThen c ≡ a andThen (b andThen c)
+then-group (given x) b c = refl
+then-group (refused number place list) b c = refl
+
+-- Two tries in order, by what each says.
+pub then-said : {A : Type 0} {x : Answer A} {a a′ : Answer (Unit {0})} {b b′ : Answer A} → x ≡ a andThen b → a ≡ a′ → b ≡ b′ → x ≡ a′ andThen b′
+then-said e f g = rw (← f, ← g) e
+
+-- Two tries that are made again after a third change nothing.
+pub then-again : {A : Type 0} (a b c : Answer (Unit {0})) (d : Answer A) → (a andThen (b andThen c)) andThen (a andThen (b andThen d)) ≡ a andThen (b andThen (c andThen d))
+then-again (given x) (given y) c d = refl
+then-again (given x) (refused number place list) c d = refl
+then-again (refused number place list) b c d = refl
+
 -- Where tries in order give a value, the first was taken and the others give it.
 pub then-given : {A : Type 0} {value : A} (a : Answer (Unit {0})) (b : Answer A) → a andThen b ≡ given value → (a ≡ taken) × (b ≡ given value)
 then-given (given x) b e = (refl, e)

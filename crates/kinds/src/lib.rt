@@ -1,6 +1,6 @@
 // Numbers that say what they number, and the refusals with their places.
 ghost use mathlib.Core.Path.{_≡_};
-ghost use Rattle.kinds.specs.Answers.{isRefused, judgedAnswer};
+ghost use Rattle.kinds.specs.Answers.{isRefused, judgedAnswer, _andThen_};
 ghost use Rattle.kinds.specs.Refusals.{listNumber, askedNumber, numberOf, placeOf, listOf};
 
 // The number of a station: 0 to n - 1.
@@ -92,6 +92,16 @@ pub fn is_refused(judged: Judged) -> bool
     match judged {
         Judged::Taken => false,
         Judged::Refused(_) => true,
+    }
+}
+
+// The first judge's refusal, or what the second says.
+pub fn first_refusal(first: Judged, second: Judged) -> Judged
+    ensures answer { λ r. ⌜ judgedAnswer r ≡ judgedAnswer first andThen judgedAnswer second ⌝ }
+{
+    match first {
+        Judged::Taken => second,
+        Judged::Refused(refusal) => Judged::Refused(refusal),
     }
 }
 

@@ -5,6 +5,7 @@ use kinds::Place;
 use kinds::Refusal;
 use kinds::Round;
 use kinds::Station;
+use kinds::first_refusal;
 use kinds::is_refused;
 ghost use mathlib.Core.Path.{_≡_};
 ghost use mathlib.Core.Bool.{false};
@@ -167,13 +168,9 @@ fn judge_lines(list: LineList, n: usize, lines: &[u16]) -> Judged
 pub fn judge_list(list: LineList, n: usize, lines: &[u16]) -> Judged
     ensures answer { λ r. ⌜ judgedAnswer r ≡ listJudged (listNumber list) n (now (lines .entry)) ⌝ }
 {
-    let stations = judge_stations(n);
-    if is_refused(stations) {
-        return stations;
-    }
-    let length = judge_length(list, lines);
-    if is_refused(length) {
-        return length;
+    let sizes = first_refusal(judge_stations(n), judge_length(list, lines));
+    if is_refused(sizes) {
+        return sizes;
     }
     judge_lines(list, n, lines)
 }

@@ -1,8 +1,8 @@
 -- What the check says of one entry, one station and one line: accepted where it is good, and its fault where it has one.
 -- Assumes nothing.
 use Prim.Native.Nat.{ℕ, _/_, _<_, _≤_}
-use mathlib.Core.Path.{_≡_, refl, sym}
-use mathlib.Core.Bool.{Bool, true, false, not, _&&_, and-false, or-true}
+use mathlib.Core.Path.{_≡_, refl, sym, ap, _∙_}
+use mathlib.Core.Bool.{Bool, true, false, not, _&&_, _||_, and-false, or-true}
 use mathlib.Core.List.{List}
 use mathlib.Core.Logic.{_⊎_.inl, _⊎_.inr}
 use native.Mathlib.Decide.{ℕ-discrete}
@@ -14,7 +14,7 @@ use Rattle.laws.specs.Fold.{anyFrom}
 use Rattle.laws.proofs.Fold.{first-last, some-any}
 use Rattle.network.specs.Lines.{endOne, endTwo, network, Proper}
 use Rattle.network.specs.Orders.{EachOnce}
-use Rattle.plans.specs.Verdicts.{Kind, Kind.A, Kind.B, Kind.C, Kind.D, Kind.E, Verdict.accepted, Verdict.faulty}
+use Rattle.plans.specs.Verdicts.{faultIf, Kind, Kind.A, Kind.B, Kind.C, Kind.D, Kind.E, Verdict.accepted, Verdict.faulty}
 use Rattle.plans.specs.Checking.{inPlay, rankVerdict, entryVerdict, hasParent, hasOther, parentVerdict, otherVerdict, stationVerdict, positionOf, lineVerdict}
 use Rattle.plans.specs.Plans.{InPlay}
 use Rattle.plans.specs.Faults.{EntryGood, EntryFault, EntryFault.outside, EntryFault.stood, Beside, Tied, Earliest, StationGood, StationFault, StationFault.parent, StationFault.other, EndsJoined}
@@ -35,19 +35,26 @@ module _ (k : ℕ) (ranks : List ℕ) (p : ℕ) where
 -- ── B ──
 
 module _ (n i : ℕ) (order : List ℕ) (j : ℕ) where
+  -- the two tests of an entry
+  abbrev no-station : Bool
+  no-station = leb n (getD order j 0)
+
+  abbrev stood-before : Bool
+  stood-before = anyFrom (λ h. eqb (getD order h 0) (getD order j 0)) 0 j
+
   pub entry-accepted : EntryGood n order j → entryVerdict n i order j ≡ accepted
   unfolding entryVerdict
-  entry-accepted g = rw (lt-leb n (getD order j 0) (g .station), new)
+  entry-accepted g = ap (λ b. faultIf (b || stood-before) i B j) (lt-leb n (getD order j 0) (g .station)) ∙ ap (λ b. faultIf b i B j) new
     where
-      new : anyFrom (λ h. eqb (getD order h 0) (getD order j 0)) 0 j ≡ false
+      new : stood-before ≡ false
       new = first-last (λ b. b) (λ h. eqb (getD order h 0) (getD order j 0)) false j (λ h l. ne-eqb (getD order h 0) (getD order j 0) (g .new h l))
 
   pub entry-faulty : EntryFault n order j → entryVerdict n i order j ≡ faulty i B j
   unfolding entryVerdict
-  entry-faulty (outside h) = rw (le-leb n (getD order j 0) h)
-  entry-faulty (stood h l e) = rw (found, or-true (leb n (getD order j 0)))
+  entry-faulty (outside h) = ap (λ b. faultIf (b || stood-before) i B j) (le-leb n (getD order j 0) h)
+  entry-faulty (stood h l e) = ap (λ b. faultIf (no-station || b) i B j) found ∙ ap (λ b. faultIf b i B j) (or-true no-station)
     where
-      found : anyFrom (λ h. eqb (getD order h 0) (getD order j 0)) 0 j ≡ true
+      found : stood-before ≡ true
       found = some-any (λ h. eqb (getD order h 0) (getD order j 0)) j h l (eq-eqb (getD order h 0) (getD order j 0) e)
 
 -- ── C and D ──

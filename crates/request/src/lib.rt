@@ -5,6 +5,7 @@ use kinds::LineList;
 use kinds::Position;
 use kinds::Refusal;
 use kinds::Round;
+use kinds::first_refusal;
 use kinds::is_refused;
 use network::judge_length;
 use network::judge_list;
@@ -93,23 +94,10 @@ fn judge_starts(n: usize, starts: &[u16]) -> Judged
 fn judge_sizes(n: usize, level: Level, lines: &[u16], starts: &[u16], short: bool) -> Judged
     ensures answer { λ r. ⌜ judgedAnswer r ≡ sizesJudged n (level .0) (now (lines .entry)) (now (starts .entry)) short ⌝ }
 {
-    let stations = judge_stations(n);
-    if is_refused(stations) {
-        return stations;
-    }
-    let length = judge_length(LineList::Only, lines);
-    if is_refused(length) {
-        return length;
-    }
-    let range = judge_level(level);
-    if is_refused(range) {
-        return range;
-    }
-    let count = judge_start_count(level, starts);
-    if is_refused(count) {
-        return count;
-    }
-    judge_room(short)
+    let counts = first_refusal(judge_start_count(level, starts), judge_room(short));
+    let sizes = first_refusal(judge_level(level), counts);
+    let lists = first_refusal(judge_length(LineList::Only, lines), sizes);
+    first_refusal(judge_stations(n), lists)
 }
 
 // The judge of a request: 1, 2, 3, 4, 5; then each line in list order for 6, 7, 8; then 9.

@@ -2,7 +2,12 @@
 -- Assumes nothing.
 use Prim.Native.Nat.{ℕ}
 use mathlib.Core.Bool.{Bool, true, false}
+use mathlib.Core.List.{List, []}
 use Rattle.kinds.specs.Answers.{Answer, Answer.given, Answer.refused}
+use Rattle.netfile.specs.Reading.{Facts}
+use Rattle.report.specs.declared.Written.{Written}
+use Rattle.report.specs.declared.Written.the-variants.{Bytes, TooShort}
+use Rattle.weakness.specs.Standing.{Standing, Standing.stands, Standing.weak}
 use Rattle.plans.specs.Verdicts.{Kind, Kind.A, Kind.B, Kind.C, Kind.D, Kind.E, Verdict, Verdict.accepted, Verdict.faulty}
 
 abbrev pub numberSaid : {A : Type 0} → Answer A → ℕ
@@ -51,3 +56,52 @@ abbrev pub faultPlaceSaid : Answer Verdict → ℕ
 faultPlaceSaid (given accepted) = 0
 faultPlaceSaid (given (faulty round kind place)) = place
 faultPlaceSaid (refused number place list) = 0
+
+-- 1 where a weak spot is found, 0 where the network stands or the search is refused.
+abbrev pub weakSaid : Answer Standing → ℕ
+weakSaid (given stands) = 0
+weakSaid (given (weak spot a b)) = 1
+weakSaid (refused number place list) = 0
+
+-- The stations of the weak spot, none where there is none.
+abbrev pub spotSaid : Answer Standing → List ℕ
+spotSaid (given stands) = []
+spotSaid (given (weak spot a b)) = spot
+spotSaid (refused number place list) = []
+
+-- The two stations that a weak spot parts, 0 where there is none.
+abbrev pub oneSaid : Answer Standing → ℕ
+oneSaid (given stands) = 0
+oneSaid (given (weak spot a b)) = a
+oneSaid (refused number place list) = 0
+
+abbrev pub twoSaid : Answer Standing → ℕ
+twoSaid (given stands) = 0
+twoSaid (given (weak spot a b)) = b
+twoSaid (refused number place list) = 0
+
+-- What reading found in a file, 0 where it is refused.
+abbrev pub stationsSaid : Answer Facts → ℕ
+stationsSaid (given facts) = facts .stations
+stationsSaid (refused number place list) = 0
+
+abbrev pub levelSaid : Answer Facts → ℕ
+levelSaid (given facts) = facts .level
+levelSaid (refused number place list) = 0
+
+abbrev pub linesSaid : Answer Facts → ℕ
+linesSaid (given facts) = facts .lines
+linesSaid (refused number place list) = 0
+
+abbrev pub startsSaid : Answer Facts → ℕ
+startsSaid (given facts) = facts .starts
+startsSaid (refused number place list) = 0
+
+-- A text that was written, or refusal 5 where its buffer is too short.
+abbrev pub writtenNumber : Written → ℕ
+writtenNumber (Bytes count) = 0
+writtenNumber TooShort = 5
+
+abbrev pub writtenCount : Written → ℕ
+writtenCount (Bytes count) = count
+writtenCount TooShort = 0

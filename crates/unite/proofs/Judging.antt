@@ -24,10 +24,6 @@ pub record Unites (n : ℕ) (first second : List ℕ) (room : ℕ) : Type 0 wher
   pub few : length (united first second) ≤ 16384
   pub fits : length (united first second) ≤ room
 
--- What the code's test of a judge says of the judge's answer.
-pub judge-said : {word answer : Answer (Unit {0})} {said b : Bool} → word ≡ answer → said ≡ isRefused word → said ≡ b → isRefused answer ≡ b
-judge-said e i h = sym (ap isRefused e) ∙ (sym i ∙ h)
-
 -- Once n and a list's length are right, judging the list is judging its lines.
 pub sized-list : (list n : ℕ) (lines : List ℕ) → isRefused (stationsJudged n) ≡ false → isRefused (lengthJudged list lines) ≡ false
     → listJudged list n lines ≡ linesJudged list n lines

@@ -3,7 +3,7 @@ use kinds::Judged;
 use kinds::LineList;
 use kinds::Place;
 use kinds::Refusal;
-use kinds::is_refused;
+use kinds::first_refusal;
 use network::judge_length;
 use network::judge_list;
 use network::judge_stations;
@@ -35,23 +35,13 @@ pub enum United {
 fn judge_lists(n: usize, first: &[u16], second: &[u16]) -> Judged
     ensures answer { λ r. ⌜ judgedAnswer r ≡ listsJudged n (now (first .entry)) (now (second .entry)) ⌝ }
 {
-    let stations = judge_stations(n);
-    if is_refused(stations) {
-        return stations;
-    }
-    let one = judge_length(LineList::First, first);
-    if is_refused(one) {
-        return one;
-    }
-    let two = judge_length(LineList::Second, second);
-    if is_refused(two) {
-        return two;
-    }
-    let each = judge_list(LineList::First, n, first);
-    if is_refused(each) {
-        return each;
-    }
-    judge_list(LineList::Second, n, second)
+    let lengths = first_refusal(
+        judge_length(LineList::First, first),
+        judge_length(LineList::Second, second),
+    );
+    let sizes = first_refusal(judge_stations(n), lengths);
+    let one = first_refusal(sizes, judge_list(LineList::First, n, first));
+    first_refusal(one, judge_list(LineList::Second, n, second))
 }
 
 // The number of the pair that the line at a place joins.

@@ -7,7 +7,7 @@ use kinds::Level;
 use kinds::LineList;
 use kinds::Refusal;
 use kinds::Station;
-use kinds::is_refused;
+use kinds::first_refusal;
 use network::judge_length;
 use network::judge_list;
 use network::judge_stations;
@@ -321,19 +321,9 @@ fn judge_weak_level(level: Level) -> Judged
 fn judge_weak(n: usize, level: Level, lines: &[u16]) -> Judged
     ensures answer { λ r. ⌜ judgedAnswer r ≡ weakJudged n (level .0) (now (lines .entry)) ⌝ }
 {
-    let stations = judge_stations(n);
-    if is_refused(stations) {
-        return stations;
-    }
-    let length = judge_length(LineList::Only, lines);
-    if is_refused(length) {
-        return length;
-    }
-    let levels = judge_weak_level(level);
-    if is_refused(levels) {
-        return levels;
-    }
-    judge_list(LineList::Only, n, lines)
+    let sizes = first_refusal(judge_length(LineList::Only, lines), judge_weak_level(level));
+    let counts = first_refusal(judge_stations(n), sizes);
+    first_refusal(counts, judge_list(LineList::Only, n, lines))
 }
 
 // The weak spot of a network at a level from 1 to 3: the fewest stations, fewer than the level, that part two others; or that it stands.

@@ -41,7 +41,7 @@ struct Difference {
     case: Case,
 }
 
-/// The first routine and case by which two programs differ; a routine that one of them lacks is passed over.
+/// The first routine and case by which two programs differ.
 fn first_difference(one: &Program, other: &Program) -> Option<Difference> {
     cases().find_map(|(origin, case)| {
         let routine = ROUTINES.iter().find(|routine| differ(routine, one, other, &case))?;
@@ -50,8 +50,7 @@ fn first_difference(one: &Program, other: &Program) -> Option<Difference> {
 }
 
 fn differ(routine: &Routine, one: &Program, other: &Program, case: &Case) -> bool {
-    let outcomes = (routine.outcome)(one, case).zip((routine.outcome)(other, case));
-    outcomes.is_some_and(|(one, other)| one != other)
+    (routine.outcome)(one, case) != (routine.outcome)(other, case)
 }
 
 /// The smallest case that a difference leads to.
@@ -74,7 +73,7 @@ fn buffers_keep_what_is_not_written() {
     let second = program::second();
     for (origin, case) in cases() {
         for routine in &ROUTINES {
-            let outcome = (routine.outcome)(&second, &case).expect("the second program has every routine");
+            let outcome = (routine.outcome)(&second, &case);
             assert!(keeps_the_rest(&outcome), "{} at {origin}", routine.name);
         }
     }

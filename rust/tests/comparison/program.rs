@@ -1,7 +1,7 @@
 //! The programs that are compared, and what each routine of one makes of a case.
 
 use crate::case::Case;
-use tapuhzel::second::kinds::{Contents, Fault, FaultKind, Place, Position, Refusal, Round, Standing, Station, Verdict};
+use tapuhzel::second::kinds::{Contents, Fault, FaultKind, Place, Position, Refusal, Round, Standing, Station, Verdict, WeakSpot};
 
 pub type Judge = fn(usize, &[u16]) -> Result<(), Refusal>;
 pub type Prune = fn(usize, usize, &[u16], &[u16], &mut [u8], &mut [u16]) -> Result<usize, Refusal>;
@@ -14,37 +14,36 @@ pub type Read = fn(&[u8], &mut [u16], &mut [u16]) -> Result<Contents, Refusal>;
 pub type Write = fn(usize, usize, &[u16], &[u16], &mut [u8]) -> Result<usize, Refusal>;
 pub type Text = fn(&[u8]) -> String;
 
-/// A program by its routines; it may lack some.
-#[derive(Default)]
+/// A program by its routines.
 pub struct Program {
-    pub judge: Option<Judge>,
-    pub prune: Option<Prune>,
-    pub check: Option<Check>,
-    pub copy: Option<Copy>,
-    pub unite: Option<Unite>,
-    pub joined: Option<Joined>,
-    pub weak: Option<Weak>,
-    pub read: Option<Read>,
-    pub write: Option<Write>,
-    pub keep_text: Option<Text>,
-    pub weak_text: Option<Text>,
+    pub judge: Judge,
+    pub prune: Prune,
+    pub check: Check,
+    pub copy: Copy,
+    pub unite: Unite,
+    pub joined: Joined,
+    pub weak: Weak,
+    pub read: Read,
+    pub write: Write,
+    pub keep_text: Text,
+    pub weak_text: Text,
 }
 
 /// The program whose modules stand in a module, laid out as the second program is.
 macro_rules! program {
     ($($part:ident)::+) => {
         Program {
-            judge: Some($($part::)+judge::judge),
-            prune: Some($($part::)+prune::prune),
-            check: Some($($part::)+check::check),
-            copy: Some($($part::)+copy::copy),
-            unite: Some($($part::)+unite::unite),
-            joined: Some($($part::)+joined::joined),
-            weak: Some($($part::)+weak::weak),
-            read: Some($($part::)+file::read),
-            write: Some($($part::)+file::write),
-            keep_text: Some($($part::)+text::keep_text),
-            weak_text: Some($($part::)+text::weak_text),
+            judge: $($part::)+judge::judge,
+            prune: $($part::)+prune::prune,
+            check: $($part::)+check::check,
+            copy: $($part::)+copy::copy,
+            unite: $($part::)+unite::unite,
+            joined: $($part::)+joined::joined,
+            weak: $($part::)+weak::weak,
+            read: $($part::)+file::read,
+            write: $($part::)+file::write,
+            keep_text: $($part::)+text::keep_text,
+            weak_text: $($part::)+text::weak_text,
         }
     };
 }
@@ -55,20 +54,24 @@ pub fn second() -> Program {
     program!(tapuhzel::second)
 }
 
-/// The proved program, by the routines that it has so far.
+/// The proved program.
 pub fn proved() -> Program {
     Program {
-        judge: Some(|n, lines| tapuhzel::judge(n, lines).map_err(numbers)),
-        prune: Some(|n, level, lines, starts, ranks, orders| {
+        judge: |n, lines| tapuhzel::judge(n, lines).map_err(numbers),
+        prune: |n, level, lines, starts, ranks, orders| {
             tapuhzel::prune(n, level, lines, starts, ranks, orders).map_err(numbers)
-        }),
-        check: Some(|n, level, lines, ranks, orders| tapuhzel::check(n, level, lines, ranks, orders).map(verdict).map_err(numbers)),
-        copy: Some(|lines, ranks, room| tapuhzel::copy(lines, ranks, room).map_err(numbers)),
-        unite: Some(|n, first, second, room| tapuhzel::unite(n, first, second, room).map_err(numbers)),
-        joined: Some(|n, lines, away, a, b| {
+        },
+        check: |n, level, lines, ranks, orders| tapuhzel::check(n, level, lines, ranks, orders).map(verdict).map_err(numbers),
+        copy: |lines, ranks, room| tapuhzel::copy(lines, ranks, room).map_err(numbers),
+        unite: |n, first, second, room| tapuhzel::unite(n, first, second, room).map_err(numbers),
+        joined: |n, lines, away, a, b| {
             tapuhzel::joined(n, lines, away, tapuhzel::Station(a.0), tapuhzel::Station(b.0)).map_err(numbers)
-        }),
-        ..Program::default()
+        },
+        weak: |n, level, lines| tapuhzel::weak(n, level, lines).map(standing).map_err(numbers),
+        read: |bytes, lines, starts| tapuhzel::read(bytes, lines, starts).map(contents).map_err(numbers),
+        write: |n, level, lines, starts, bytes| tapuhzel::write(n, level, lines, starts, bytes).map_err(numbers),
+        keep_text: tapuhzel::keep_text,
+        weak_text: tapuhzel::weak_text,
     }
 }
 
@@ -85,6 +88,25 @@ fn verdict(verdict: tapuhzel::Verdict) -> Verdict {
         tapuhzel::FaultKind::TreesApart(place) => FaultKind::E(Place(place.0.into())),
     };
     Verdict::Faulty(Fault { round: Round(fault.round.0), kind })
+}
+
+/// A standing of the proved program, as the second program writes one.
+fn standing(standing: tapuhzel::Standing) -> Standing {
+    let tapuhzel::Standing::Weak(found) = standing else {
+        return Standing::Stands;
+    };
+    let station = |station: tapuhzel::Station| Station(station.0);
+    let away = match found.spot {
+        tapuhzel::Spot::Empty => vec![],
+        tapuhzel::Spot::One(first) => vec![station(first)],
+        tapuhzel::Spot::Two(first, second) => vec![station(first), station(second)],
+    };
+    Standing::Weak(WeakSpot { away, a: station(found.one), b: station(found.two) })
+}
+
+/// What the proved program found in a file, as the second program writes it.
+fn contents(found: tapuhzel::Contents) -> Contents {
+    Contents { n: found.stations, level: found.level, lines: found.lines, starts: found.starts }
 }
 
 /// A refusal of the proved program by its numbers.
@@ -110,25 +132,25 @@ pub enum Answer {
     Text(String),
 }
 
-/// A routine by its name, and what a program that has it makes of a case.
+/// A routine by its name, and what a program makes of a case by it.
 pub struct Routine {
     pub name: &'static str,
-    pub outcome: fn(&Program, &Case) -> Option<Outcome>,
+    pub outcome: fn(&Program, &Case) -> Outcome,
 }
 
 /// Every routine that can be compared.
 pub const ROUTINES: [Routine; 11] = [
-    Routine { name: "judge", outcome: |program, case| program.judge.map(|judge| judged(judge, case)) },
-    Routine { name: "prune", outcome: |program, case| program.prune.map(|prune| pruned(prune, case)) },
-    Routine { name: "check", outcome: |program, case| program.check.map(|check| checked(check, case)) },
-    Routine { name: "copy", outcome: |program, case| program.copy.map(|copy| copied(copy, case)) },
-    Routine { name: "unite", outcome: |program, case| program.unite.map(|unite| united(unite, case)) },
-    Routine { name: "joined", outcome: |program, case| program.joined.map(|joined| asked(joined, case)) },
-    Routine { name: "weak", outcome: |program, case| program.weak.map(|weak| searched(weak, case)) },
-    Routine { name: "read", outcome: |program, case| program.read.map(|read| read_file(read, case)) },
-    Routine { name: "write", outcome: |program, case| program.write.map(|write| written(write, case)) },
-    Routine { name: "keep_text", outcome: |program, case| program.keep_text.map(|text| text_of(text, case)) },
-    Routine { name: "weak_text", outcome: |program, case| program.weak_text.map(|text| text_of(text, case)) },
+    Routine { name: "judge", outcome: |program, case| judged(program.judge, case) },
+    Routine { name: "prune", outcome: |program, case| pruned(program.prune, case) },
+    Routine { name: "check", outcome: |program, case| checked(program.check, case) },
+    Routine { name: "copy", outcome: |program, case| copied(program.copy, case) },
+    Routine { name: "unite", outcome: |program, case| united(program.unite, case) },
+    Routine { name: "joined", outcome: |program, case| asked(program.joined, case) },
+    Routine { name: "weak", outcome: |program, case| searched(program.weak, case) },
+    Routine { name: "read", outcome: |program, case| read_file(program.read, case) },
+    Routine { name: "write", outcome: |program, case| written(program.write, case) },
+    Routine { name: "keep_text", outcome: |program, case| text_of(program.keep_text, case) },
+    Routine { name: "weak_text", outcome: |program, case| text_of(program.weak_text, case) },
 ];
 
 fn judged(judge: Judge, case: &Case) -> Outcome {

@@ -27,7 +27,7 @@ fn every_refusal_comes_up() {
     let mut found: BTreeMap<&str, BTreeMap<u8, usize>> = BTreeMap::new();
     for (_, case) in cases() {
         for routine in &ROUTINES {
-            if let Some(Err(refusal)) = (routine.outcome)(&second, &case).map(|outcome| outcome.answer) {
+            if let Err(refusal) = (routine.outcome)(&second, &case).answer {
                 *found.entry(routine.name).or_default().entry(refusal.number).or_default() += 1;
             }
         }

@@ -1,0 +1,128 @@
+// The network file for C, and what the programs write of one.
+use crate::said::say_refusal;
+use crate::said::say_taken;
+use kinds::Level;
+use netfile::Reading;
+use netfile::Writing;
+use report::Written;
+ghost use mathlib.Core.Path.{_≡_};
+ghost use lib.ListN.{length};
+ghost use lib.Dec.{ltb};
+ghost use Rattle.netfile.specs.Reading.{readAnswer, linesAfter, startsAfter};
+ghost use Rattle.netfile.specs.Writing.{writeAnswer, bytesAfter};
+ghost use Rattle.report.specs.Answers.{writtenAnswer, writtenOver};
+ghost use Rattle.programs.specs.Keep.{keepOutput};
+ghost use Rattle.programs.specs.Weak.{weakOutput};
+ghost use Rattle.tapuhzel.specs.Codes.{numberSaid, placeSaid, listSaid, countSaid, stationsSaid, levelSaid, linesSaid, startsSaid, writtenNumber, writtenCount};
+
+// Reads a network file into lent buffers, and says how many stations, lines and starts it has and its level.
+#[no_mangle]
+pub extern "C" fn tapuhzel_read(
+    bytes: &[u8],
+    lines: &mut [u16],
+    starts: &mut [u16],
+    n: &mut usize,
+    level: &mut usize,
+    m: &mut usize,
+    s: &mut usize,
+    place: &mut usize,
+    list: &mut u8,
+) -> u8
+    ensures number { λ r. ⌜ r ≡ numberSaid (readAnswer (now (bytes .entry)) (now (lines .entry)) (now (starts .entry))) ⌝ }
+    ensures lines { λ _. ⌜ now (lines .exit) ≡ linesAfter (readAnswer (now (bytes .entry)) (now (lines .entry)) (now (starts .entry))) (now (bytes .entry)) (now (lines .entry)) ⌝ }
+    ensures starts { λ _. ⌜ now (starts .exit) ≡ startsAfter (readAnswer (now (bytes .entry)) (now (lines .entry)) (now (starts .entry))) (now (bytes .entry)) (now (starts .entry)) ⌝ }
+    ensures n { λ _. ⌜ now (n .exit) ≡ stationsSaid (readAnswer (now (bytes .entry)) (now (lines .entry)) (now (starts .entry))) ⌝ }
+    ensures level { λ _. ⌜ now (level .exit) ≡ levelSaid (readAnswer (now (bytes .entry)) (now (lines .entry)) (now (starts .entry))) ⌝ }
+    ensures m { λ _. ⌜ now (m .exit) ≡ linesSaid (readAnswer (now (bytes .entry)) (now (lines .entry)) (now (starts .entry))) ⌝ }
+    ensures s { λ _. ⌜ now (s .exit) ≡ startsSaid (readAnswer (now (bytes .entry)) (now (lines .entry)) (now (starts .entry))) ⌝ }
+    ensures place { λ _. ⌜ now (place .exit) ≡ placeSaid (readAnswer (now (bytes .entry)) (now (lines .entry)) (now (starts .entry))) ⌝ }
+    ensures list { λ _. ⌜ now (list .exit) ≡ listSaid (readAnswer (now (bytes .entry)) (now (lines .entry)) (now (starts .entry))) ⌝ }
+{
+    let answer = netfile::read(bytes, lines, starts);
+    match answer {
+        Reading::Network(found) => {
+            *n = found.stations;
+            *level = found.level.0;
+            *m = found.lines;
+            *s = found.starts;
+            say_taken(place, list)
+        }
+        Reading::Refused(refusal) => {
+            *n = 0;
+            *level = 0;
+            *m = 0;
+            *s = 0;
+            say_refusal(refusal, place, list)
+        }
+    }
+}
+
+// Writes a network as a file, and says how many bytes it has.
+#[no_mangle]
+pub extern "C" fn tapuhzel_write(
+    n: usize,
+    level: usize,
+    lines: &[u16],
+    starts: &[u16],
+    bytes: &mut [u8],
+    count: &mut usize,
+    place: &mut usize,
+    list: &mut u8,
+) -> u8
+    ensures number { λ r. ⌜ r ≡ numberSaid (writeAnswer n level (now (lines .entry)) (now (starts .entry)) (now (bytes .entry))) ⌝ }
+    ensures bytes { λ _. ⌜ now (bytes .exit) ≡ bytesAfter (writeAnswer n level (now (lines .entry)) (now (starts .entry)) (now (bytes .entry))) n level (now (lines .entry)) (now (starts .entry)) (now (bytes .entry)) ⌝ }
+    ensures count { λ _. ⌜ now (count .exit) ≡ countSaid (writeAnswer n level (now (lines .entry)) (now (starts .entry)) (now (bytes .entry))) ⌝ }
+    ensures place { λ _. ⌜ now (place .exit) ≡ placeSaid (writeAnswer n level (now (lines .entry)) (now (starts .entry)) (now (bytes .entry))) ⌝ }
+    ensures list { λ _. ⌜ now (list .exit) ≡ listSaid (writeAnswer n level (now (lines .entry)) (now (starts .entry)) (now (bytes .entry))) ⌝ }
+{
+    let answer = netfile::write(n, Level(level), lines, starts, bytes);
+    match answer {
+        Writing::Bytes(written) => {
+            *count = written;
+            say_taken(place, list)
+        }
+        Writing::Refused(refusal) => {
+            *count = 0;
+            say_refusal(refusal, place, list)
+        }
+    }
+}
+
+// What a text routine says: 0 and the count of bytes, or refusal 5 and none.
+fn say_written(written: Written, count: &mut usize) -> u8
+    ensures number { λ r. ⌜ r ≡ writtenNumber written ⌝ }
+    ensures count { λ _. ⌜ now (count .exit) ≡ writtenCount written ⌝ }
+{
+    match written {
+        Written::Bytes(bytes) => {
+            *count = bytes;
+            0
+        }
+        Written::TooShort => {
+            *count = 0;
+            5
+        }
+    }
+}
+
+// What keep writes of a file's bytes.
+#[no_mangle]
+pub extern "C" fn tapuhzel_keep_text(bytes: &[u8], text: &mut [u8], count: &mut usize) -> u8
+    ensures number { λ r. ⌜ r ≡ writtenNumber (writtenAnswer (ltb (length (now (text .entry))) 524416) (keepOutput (now (bytes .entry)))) ⌝ }
+    ensures text { λ _. ⌜ now (text .exit) ≡ writtenOver (ltb (length (now (text .entry))) 524416) (keepOutput (now (bytes .entry))) (now (text .entry)) ⌝ }
+    ensures count { λ _. ⌜ now (count .exit) ≡ writtenCount (writtenAnswer (ltb (length (now (text .entry))) 524416) (keepOutput (now (bytes .entry)))) ⌝ }
+{
+    let written = programs::keep_text(bytes, text);
+    say_written(written, count)
+}
+
+// What weak writes of a file's bytes.
+#[no_mangle]
+pub extern "C" fn tapuhzel_weak_text(bytes: &[u8], text: &mut [u8], count: &mut usize) -> u8
+    ensures number { λ r. ⌜ r ≡ writtenNumber (writtenAnswer (ltb (length (now (text .entry))) 256) (weakOutput (now (bytes .entry)))) ⌝ }
+    ensures text { λ _. ⌜ now (text .exit) ≡ writtenOver (ltb (length (now (text .entry))) 256) (weakOutput (now (bytes .entry))) (now (text .entry)) ⌝ }
+    ensures count { λ _. ⌜ now (count .exit) ≡ writtenCount (writtenAnswer (ltb (length (now (text .entry))) 256) (weakOutput (now (bytes .entry)))) ⌝ }
+{
+    let written = programs::weak_text(bytes, text);
+    say_written(written, count)
+}
