@@ -9,9 +9,7 @@
 //! start 0
 //! ```
 
-use crate::second::file::{records, write, Network};
-use crate::second::judge::lines_of;
-use crate::second::kinds::Refusal;
+use crate::{read, write, Refusal};
 use std::fmt;
 
 /// What is wrong with a text or a file, and where.
@@ -49,16 +47,15 @@ pub fn pack(text: &str) -> Result<Vec<u8>, Mistake> {
 
 /// The text list of a file.
 pub fn unpack(bytes: &[u8]) -> Result<String, Mistake> {
-    match records(bytes) {
-        Ok(network) => Ok(text_of(&network)),
-        Err(refusal) => Err(Mistake { text_line: None, message: refused(refusal) }),
-    }
+    let (mut lines, mut starts) = (vec![0; 16_384], [0; 16]);
+    let found = read(bytes, &mut lines, &mut starts).map_err(|refusal| Mistake { text_line: None, message: refused(refusal) })?;
+    Ok(text_of(found.stations, found.level, &lines[..2 * found.lines], &starts[..found.starts]))
 }
 
-fn text_of(network: &Network) -> String {
-    let lines = lines_of(&network.lines).map(|(_, one, two)| format!("line {} {}\n", one.0, two.0));
-    let starts = network.starts.iter().map(|start| format!("start {start}\n"));
-    let header = format!("stations {}\nlevel {}\n", network.n, network.level);
+fn text_of(stations: usize, level: usize, lines: &[u16], starts: &[u16]) -> String {
+    let lines = lines.chunks_exact(2).map(|ends| format!("line {} {}\n", ends[0], ends[1]));
+    let starts = starts.iter().map(|start| format!("start {start}\n"));
+    let header = format!("stations {stations}\nlevel {level}\n");
     std::iter::once(header).chain(lines).chain(starts).collect()
 }
 
@@ -114,11 +111,13 @@ impl Listed {
 
     /// The text line that a refusal speaks of.
     fn origin(&self, refusal: Refusal) -> Option<usize> {
-        match refusal.number {
-            1 => self.stations.map(|(_, text_line)| text_line),
-            3 => self.level.map(|(_, text_line)| text_line),
-            6..=8 => self.line_origins.get(refusal.place).copied(),
-            9 => self.start_origins.get(refusal.place - 1).copied(),
+        match refusal {
+            Refusal::StationCount => self.stations.map(|(_, text_line)| text_line),
+            Refusal::LevelRange => self.level.map(|(_, text_line)| text_line),
+            Refusal::EndOutside(_, place) | Refusal::EndsEqual(_, place) | Refusal::StoodEarlier(_, place) => {
+                self.line_origins.get(usize::from(place.0)).copied()
+            }
+            Refusal::StartOutside(round) => self.start_origins.get(usize::from(round.0) - 1).copied(),
             _ => None,
         }
     }
@@ -150,8 +149,8 @@ fn shown(word: &str) -> String {
 }
 
 /// A refusal in words.
-fn refused(Refusal { number, place, .. }: Refusal) -> String {
-    format!("refused {number} at {place}: {}", reason(number))
+fn refused(refusal: Refusal) -> String {
+    format!("refused {} at {}: {}", refusal.number(), refusal.place(), reason(refusal.number()))
 }
 
 /// The document's words for the refusals of reading and writing.
@@ -186,19 +185,19 @@ pub fn draw(stations: u16, lines: usize, level: u16, seed: u64) -> Result<String
         state = state.wrapping_mul(6_364_136_223_846_793_005).wrapping_add(1_442_695_040_888_963_407);
         ((state >> 33) % u64::from(stations)) as u16
     };
-    let mut network = Network { n: stations, level, ..Network::default() };
+    let mut list = Vec::with_capacity(2 * lines);
     let mut stood = std::collections::HashSet::new();
     let mut draws = 1;
     while stood.len() < lines {
         let mut lowest = || (1..draws).fold(station(), |low, _| low.min(station()));
         let (one, two) = (lowest(), lowest());
         if one != two && stood.insert((one.min(two), one.max(two))) {
-            network.lines.extend([one, two]);
+            list.extend([one, two]);
         }
         draws = 9 - draws;
     }
-    network.starts = (0..level).map(|_| station()).collect();
-    Ok(text_of(&network))
+    let starts: Vec<u16> = (0..level).map(|_| station()).collect();
+    Ok(text_of(stations.into(), level.into(), &list, &starts))
 }
 
 #[cfg(test)]

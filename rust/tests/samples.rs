@@ -1,10 +1,10 @@
-//! The networks of samples/: each text list packs to its file, and the second program says of it what is stored there.
+//! The networks of samples/: each text list packs to its file, and both programs say of it what is stored there.
 
 use std::io::Write;
 use std::path::PathBuf;
 use std::process::{Command, Stdio};
 use tapuhzel::listing::{draw, pack, unpack};
-use tapuhzel::second::text::{keep_text, weak_text};
+use tapuhzel::{keep_text, second, weak_text};
 
 const NAMES: [&str; 6] = ["reservoir", "relay", "ring", "grid", "valley", "limits"];
 
@@ -28,17 +28,23 @@ fn texts_pack_to_their_files_and_back() {
 }
 
 #[test]
-fn the_second_program_says_what_is_stored() {
+fn both_programs_say_what_is_stored() {
     for name in NAMES {
         let file = stored(&format!("{name}.net"));
-        assert_eq!(keep_text(&file), stored_text(&format!("{name}.keep.txt")), "{name}");
-        assert_eq!(weak_text(&file), stored_text(&format!("{name}.weak.txt")), "{name}");
+        let (keep, weak) = (stored_text(&format!("{name}.keep.txt")), stored_text(&format!("{name}.weak.txt")));
+        assert_eq!((keep_text(&file), weak_text(&file)), (keep.clone(), weak.clone()), "{name}");
+        assert_eq!((second::text::keep_text(&file), second::text::weak_text(&file)), (keep, weak), "{name}");
     }
 }
 
 #[test]
-fn the_second_program_says_what_keep_is_held_to() {
-    assert_eq!(keep_text(&stored("../crates/keep/stdin")), stored_text("../crates/keep/stdout"));
+fn the_second_program_says_what_the_programs_are_held_to() {
+    let held = |program: &str, text: fn(&[u8]) -> String| {
+        let (input, output) = (stored(&format!("../crates/{program}/stdin")), stored_text(&format!("../crates/{program}/stdout")));
+        assert_eq!(text(&input), output, "{program}");
+    };
+    held("keep", second::text::keep_text);
+    held("weak", second::text::weak_text);
 }
 
 #[test]

@@ -3,8 +3,8 @@
 //! ```text
 //! network-file pack   < x.txt > x.net     the file of a text list
 //! network-file unpack < x.net > x.txt     the text list of a file
-//! network-file keep   < x.net             what `keep` writes of a file, by the second program
-//! network-file weak   < x.net             what `weak` writes of a file, by the second program
+//! network-file keep   < x.net             what `keep` writes of a file
+//! network-file weak   < x.net             what `weak` writes of a file
 //! network-file draw STATIONS LINES LEVEL SEED > x.txt     a text list drawn from a seed
 //! ```
 //!
@@ -14,7 +14,7 @@
 use std::io::{Read, Write};
 use std::process::ExitCode;
 use tapuhzel::listing::{draw, pack, unpack, Mistake};
-use tapuhzel::second::text::{keep_text, weak_text};
+use tapuhzel::{keep_text, weak_text};
 
 const USAGE: &str = "expected pack, unpack, keep, weak, or draw STATIONS LINES LEVEL SEED";
 
