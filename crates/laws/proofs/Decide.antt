@@ -1,7 +1,6 @@
 -- Decisions: from parts to wholes, and over the numbers below a bound.
 -- Assumes nothing.
-use mathlib.Core.Path.{_≡_, refl, subst}
-use mathlib.Core.Bool.{Bool, true, false}
+use mathlib.Core.Path.{_≡_, subst}
 use mathlib.Core.Logic.{_⊎_, _⊎_.inl, _⊎_.inr}
 use Prim.Native.Nat.{ℕ, zero, suc, _<_}
 use native.Mathlib.Omega.{arith}
@@ -20,10 +19,6 @@ dec-or (no n) (no m) = no (λ h. elim h [ inl a ↦ n a | inr b ↦ m b ])
 unfoldable pub dec-not : {A : Type 0} → Dec A → Dec (¬ A)
 dec-not (yes a) = no (λ n. n a)
 dec-not (no n) = yes n
-
-pub dec-bool : (b : Bool) → Dec (b ≡ true)
-dec-bool true = yes refl
-dec-bool false = no (λ e. let z : _≡_ {A = ℕ} 0 1 = cc in omega arith)
 
 -- Some number below m has the property, or none has.
 pub some-below : (P : ℕ → Type 0) → ((p : ℕ) → Dec (P p)) → (m : ℕ) → ((p : ℕ) × (p < m) × P p) ⊎ ((p : ℕ) → p < m → ¬ P p)
