@@ -15,7 +15,7 @@ use lib.Seq.{getD-set-same, getD-set-other}
 use Rattle.laws.specs.Fold.{pick}
 use Rattle.network.specs.Lines.{network, Joins}
 use Rattle.plans.specs.Checking.{inPlay, ofRank}
-use Rattle.forests.specs.Tables.{Seen, seen, Blank, seeFrom}
+use Rattle.seen.specs.Tables.{Seen, seen, Blank, seeFrom}
 
 -- One of the first `count` lines passes the test, and joins the stations at positions j and h.
 pub record Line (n : ℕ) (lines order : List ℕ) (test : ℕ → Bool) (count j h : ℕ) : Type 0 where

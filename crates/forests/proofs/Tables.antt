@@ -19,7 +19,8 @@ use Rattle.network.specs.Chains.{Hop.by}
 use Rattle.network.specs.Orders.{EachOnce}
 use Rattle.network.specs.Faults.{Sound}
 use Rattle.plans.specs.Checking.{inPlay, ofRank, earliest, hasParent, hasOther, parentVerdict, otherVerdict, stationVerdict, stationsVerdict, positionOf, treesOf, lineVerdict, linesVerdict}
-use Rattle.forests.specs.Tables.{Placed, Seen, seeBetween, seeLine, seeLines, Blank, seenVerdict, allSeenVerdict, plant, plantAll, treesVerdict, allTreesVerdict}
+use Rattle.seen.specs.Tables.{Seen, seeBetween, seeLine, seeLines, Blank, plant, plantAll}
+use Rattle.forests.specs.Tables.{Placed, seenVerdict, allSeenVerdict, treesVerdict, allTreesVerdict}
 use Rattle.plans.specs.Verdicts.{Verdict.accepted, isFaulty}
 use Rattle.plans.specs.Faults.{Beside, Tied}
 use Rattle.plans.proofs.Hops.{in-play, play-in, of-rank, rank-of, linked-tied, tied-linked, firstBeside, searched, Searched, earliest-one}

@@ -1,6 +1,5 @@
 // The check of forests: whether rounds and orders from anywhere meet the published definition.
 mod round; // round.rt: one round of the check
-mod seen; // seen.rt: what is seen of a round's lines
 
 use kinds::Judged;
 use kinds::Level;

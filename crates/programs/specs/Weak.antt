@@ -4,7 +4,8 @@ use Prim.Native.Nat.{ℕ}
 use mathlib.Core.List.{List}
 use Rattle.kinds.specs.Answers.{Answer, Answer.given, Answer.refused}
 use Rattle.netfile.specs.Reading.{Facts, fileRead, lineNumbers}
-use Rattle.report.specs.Text.{weakText, refusedText}
+use Rattle.report.specs.Text.{refusedText}
+use Rattle.standing.specs.Text.{weakText}
 use Rattle.weakness.specs.Standing.{Standing, weakAnswer}
 
 -- Of a network whose search answered: whether it stands, or the refusal.

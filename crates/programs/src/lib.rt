@@ -7,7 +7,7 @@ use prune::prune;
 use report::Written;
 use report::write_kept;
 use report::write_refused;
-use report::write_standing;
+use standing::write_standing;
 use weakness::Searched;
 use weakness::find_weak_spot;
 ghost use mathlib.Core.Path.{_≡_};

@@ -17,10 +17,6 @@ keepShort lines room = ltb 16384 (length lines) || ltb room (128 + 64 * (length 
 unfoldable pub refusedShort : ℕ → Bool
 refusedShort room = ltb room 64
 
--- Whether a buffer has too little room for what weak writes.
-unfoldable pub weakShort : ℕ → Bool
-weakShort room = ltb room 256
-
 -- The number of bytes written, or that the buffer is too short.
 abbrev pub writtenAnswer : Bool → List ℕ → Written
 writtenAnswer short text = pick short TooShort (Bytes (length text))

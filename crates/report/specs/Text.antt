@@ -1,5 +1,4 @@
--- What the programs write, as bytes. keep: a header, then a row for each kept line by place. weak: a header, then a row that tells whether
--- the network stands. Both: one row for a refusal.
+-- What the programs write, as bytes. keep: a header, then a row for each kept line by place. Of a refused input: one row.
 -- Assumes nothing.
 use Prim.Native.Nat.{ℕ, zero, suc, _+_, _/_, _%_}
 use mathlib.Core.List.{List, [], _∷_, _++_}
@@ -7,7 +6,6 @@ use lib.ListN.{length, getD}
 use lib.Dec.{ltb, eqb}
 use Rattle.laws.specs.Fold.{pick, upTo}
 use Rattle.network.specs.Lines.{endOne, endTwo}
-use Rattle.weakness.specs.Standing.{Standing, Standing.stands, Standing.weak}
 
 -- The decimal digits of x in ASCII, the most significant first: those of x / 10, then x % 10. The first number bounds how many there are.
 unfoldable pub digits : ℕ → ℕ → List ℕ
@@ -93,41 +91,3 @@ keepText n k lines ranks kept = headerText n k (length lines / 2) kept ++ keptTe
 -- "refused N at P".
 unfoldable pub refusedText : ℕ → ℕ → List ℕ
 refusedText number place = (refusedNumberText number ++ atText place) ++ newline
-
--- "stations N level K lines M".
-unfoldable pub weakHeaderText : ℕ → ℕ → ℕ → List ℕ
-weakHeaderText n k count = ((stationsText n ++ levelText k) ++ linesText count) ++ newline
-
--- "stands".
-abbrev pub standsText : List ℕ
-standsText = 115 ∷ 116 ∷ 97 ∷ 110 ∷ 100 ∷ 115 ∷ 10 ∷ []
-
--- "weak".
-abbrev pub weakWord : List ℕ
-weakWord = 119 ∷ 101 ∷ 97 ∷ 107 ∷ []
-
--- A space and a station.
-abbrev pub stationText : ℕ → List ℕ
-stationText v = field (32 ∷ []) v
-
--- The stations of a spot, each after a space.
-unfoldable pub spotText : List ℕ → List ℕ
-spotText [] = []
-spotText (v ∷ spot) = stationText v ++ spotText spot
-
--- " parts " and the number.
-abbrev pub partsText : ℕ → List ℕ
-partsText a = field (32 ∷ 112 ∷ 97 ∷ 114 ∷ 116 ∷ 115 ∷ 32 ∷ []) a
-
--- "weak", the spot's stations, "parts A from B".
-unfoldable pub weakRowText : List ℕ → ℕ → ℕ → List ℕ
-weakRowText spot a b = (((weakWord ++ spotText spot) ++ partsText a) ++ fromText b) ++ newline
-
--- The row of a network that stands, or of its weak spot.
-abbrev pub standingText : Standing → List ℕ
-standingText stands = standsText
-standingText (weak spot a b) = weakRowText spot a b
-
--- What weak writes of a network with this many lines.
-unfoldable pub weakText : ℕ → ℕ → ℕ → Standing → List ℕ
-weakText n k count standing = weakHeaderText n k count ++ standingText standing

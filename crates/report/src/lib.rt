@@ -1,6 +1,4 @@
-// The text that the programs write: of a pruned network, of a network's weak spot, or of a refused input.
-mod standing; // standing.rt: whether a network stands, put into a text
-
+// The text that the programs write: of a pruned network, or of a refused input; and the words that every text is put together from.
 use kinds::Level;
 use kinds::Place;
 use kinds::Refusal;
@@ -12,18 +10,14 @@ use kinds::place_of;
 use network::Line;
 use network::line_at;
 use network::rank_at;
-use standing::put_standing;
-use standing::put_weak_header;
-use weakness::Found;
 ghost use Prim.Native.Nat.{_+_, _*_, _/_, _≤_, _<_};
 ghost use mathlib.Core.Path.{_≡_};
 ghost use mathlib.Core.List.{[], _∷_};
 ghost use lib.ListN.{length, getD};
 ghost use Rattle.kinds.specs.Refusals.{numberOf, placeOf};
-ghost use Rattle.report.specs.Answers.{keepShort, refusedShort, weakShort, writtenAnswer, writtenOver};
-ghost use Rattle.report.specs.Text.{decimal, field, stationsText, levelText, linesText, keptCountText, roundText, placeText, fromText, toText, refusedNumberText, atText, newline, headerText, lineText, rowText, keptText, keepText, refusedText, weakText};
+ghost use Rattle.report.specs.Answers.{keepShort, refusedShort, writtenAnswer, writtenOver};
+ghost use Rattle.report.specs.Text.{decimal, field, stationsText, levelText, linesText, keptCountText, roundText, placeText, fromText, toText, refusedNumberText, atText, newline, headerText, lineText, rowText, keptText, keepText, refusedText};
 ghost use Rattle.report.specs.Writing.{Puts};
-ghost use Rattle.weakness.specs.Answers.{foundStanding};
 
 // What writing says: how many bytes were written, or that the buffer has too little room and is as it was.
 pub enum Written {
@@ -41,7 +35,7 @@ fn put_byte(text: &mut [u8], at: usize, byte: u8) -> usize
 }
 
 // Writes the bytes of a word.
-fn put_word(text: &mut [u8], at: usize, word: &[u8]) -> usize
+pub fn put_word(text: &mut [u8], at: usize, word: &[u8]) -> usize
     requires { ⌜ at + length (now word) ≤ length (now text) ⌝ }
     ensures put { λ r. ⌜ Puts (now (text .entry)) at (now (word .entry)) (now (text .exit)) r ⌝ }
 {
@@ -65,7 +59,7 @@ fn put_number(text: &mut [u8], at: usize, x: usize) -> usize
 }
 
 // Writes a word and a number.
-fn put_field(text: &mut [u8], at: usize, word: &[u8], x: usize) -> usize
+pub fn put_field(text: &mut [u8], at: usize, word: &[u8], x: usize) -> usize
     requires { ⌜ at + length (field (now word) x) ≤ length (now text) ⌝ }
     ensures put { λ r. ⌜ Puts (now (text .entry)) at (field (now (word .entry)) x) (now (text .exit)) r ⌝ }
 {
@@ -74,7 +68,7 @@ fn put_field(text: &mut [u8], at: usize, word: &[u8], x: usize) -> usize
 }
 
 // Writes the number of stations.
-fn put_stations(text: &mut [u8], at: usize, n: usize) -> usize
+pub fn put_stations(text: &mut [u8], at: usize, n: usize) -> usize
     requires { ⌜ at + length (stationsText n) ≤ length (now text) ⌝ }
     ensures put { λ r. ⌜ Puts (now (text .entry)) at (stationsText n) (now (text .exit)) r ⌝ }
 {
@@ -82,7 +76,7 @@ fn put_stations(text: &mut [u8], at: usize, n: usize) -> usize
 }
 
 // Writes the level.
-fn put_level(text: &mut [u8], at: usize, level: Level) -> usize
+pub fn put_level(text: &mut [u8], at: usize, level: Level) -> usize
     requires { ⌜ at + length (levelText (level .0)) ≤ length (now text) ⌝ }
     ensures put { λ r. ⌜ Puts (now (text .entry)) at (levelText (level .0)) (now (text .exit)) r ⌝ }
 {
@@ -90,7 +84,7 @@ fn put_level(text: &mut [u8], at: usize, level: Level) -> usize
 }
 
 // Writes the number of lines.
-fn put_count(text: &mut [u8], at: usize, count: usize) -> usize
+pub fn put_count(text: &mut [u8], at: usize, count: usize) -> usize
     requires { ⌜ at + length (linesText count) ≤ length (now text) ⌝ }
     ensures put { λ r. ⌜ Puts (now (text .entry)) at (linesText count) (now (text .exit)) r ⌝ }
 {
@@ -122,7 +116,7 @@ fn put_place(text: &mut [u8], at: usize, place: Place) -> usize
 }
 
 // Writes a line's first end.
-fn put_from(text: &mut [u8], at: usize, one: Station) -> usize
+pub fn put_from(text: &mut [u8], at: usize, one: Station) -> usize
     requires { ⌜ at + length (fromText (one .0)) ≤ length (now text) ⌝ }
     ensures put { λ r. ⌜ Puts (now (text .entry)) at (fromText (one .0)) (now (text .exit)) r ⌝ }
 {
@@ -154,7 +148,7 @@ fn put_at(text: &mut [u8], at: usize, place: RefusalPlace) -> usize
 }
 
 // Ends a row.
-fn put_newline(text: &mut [u8], at: usize) -> usize
+pub fn put_newline(text: &mut [u8], at: usize) -> usize
     requires { ⌜ at < length (now text) ⌝ }
     ensures put { λ r. ⌜ Puts (now (text .entry)) at newline (now (text .exit)) r ⌝ }
 {
@@ -266,25 +260,5 @@ pub fn write_refused(refusal: Refusal, text: &mut [u8]) -> Written
     let number = number_of(refusal) as usize;
     let place = place_of(refusal);
     let end = put_refusal(text, number, place);
-    Written::Bytes(end)
-}
-
-// Writes what weak writes of a network with `count` lines, from the front of `text`. It is TooShort, and nothing changes, where `text` has less
-// than 256 bytes.
-pub fn write_standing(
-    n: usize,
-    level: Level,
-    count: usize,
-    found: Found,
-    text: &mut [u8],
-) -> Written
-    ensures answer { λ r. ⌜ r ≡ writtenAnswer (weakShort (length (now (text .entry)))) (weakText n (level .0) count (foundStanding found)) ⌝ }
-    ensures text { λ _. ⌜ now (text .exit) ≡ writtenOver (weakShort (length (now (text .entry)))) (weakText n (level .0) count (foundStanding found)) (now (text .entry)) ⌝ }
-{
-    if text.len() < 256 {
-        return Written::TooShort;
-    }
-    let at = put_weak_header(text, n, level, count);
-    let end = put_standing(text, at, found);
     Written::Bytes(end)
 }

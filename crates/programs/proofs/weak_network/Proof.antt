@@ -8,7 +8,8 @@ use lib.ListN.{length}
 use lib.Dec.{ltb}
 use Rattle.weakness.specs.Standing.{weakAnswer}
 use Rattle.weakness.specs.Answers.{foundStanding}
-use Rattle.report.specs.Answers.{refusedShort, weakShort}
+use Rattle.report.specs.Answers.{refusedShort}
+use Rattle.standing.specs.Text.{weakShort}
 use Rattle.kinds.specs.Answers.{Answer.given, refusalAnswer}
 use Rattle.programs.specs.Weak.{searchedText}
 use Rattle.programs.proofs.weak_network.Statement.{statement}

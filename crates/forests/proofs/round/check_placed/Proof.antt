@@ -4,7 +4,7 @@ use Rattle.plans.specs.Checking.{stationsVerdict, linesVerdict}
 use Rattle.plans.proofs.Verdicts.{or-faulty, or-next}
 use Rattle.forests.proofs.Tables.{placed-below, lines-right, stations-verdict, lines-verdict}
 use Rattle.forests.proofs.Seeing.{Right}
-use Rattle.forests.specs.Tables.{Seen}
+use Rattle.seen.specs.Tables.{Seen}
 use Rattle.plans.specs.Verdicts.{isFaulty}
 use Rattle.forests.specs.Answers.{verdictSaid}
 use lib.ListN.{length}

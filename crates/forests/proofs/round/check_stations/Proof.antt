@@ -1,6 +1,7 @@
 -- `forests::round::check_stations` meets its contract. The loop's invariant: what is left to look at from j on is the verdict. The measure is the
 -- number of stations left. Assumes nothing.
-use Rattle.forests.specs.Tables.{seen, seenVerdict, allSeenVerdict}
+use Rattle.seen.specs.Tables.{seen}
+use Rattle.forests.specs.Tables.{seenVerdict, allSeenVerdict}
 use Rattle.plans.specs.Verdicts.{Verdict.accepted, isFaulty}
 use lib.ListN.{length}
 use Prim.Native.Nat.{_-_, _≤_}
