@@ -9,7 +9,7 @@ use Rattle.network.specs.Lines.{network}
 use Rattle.network.specs.Chains.{Hop, Every}
 use Rattle.network.specs.Faults.{Sound}
 use Rattle.network.proofs.Chains.{chain-hop, chain-by, chain-map}
-use Rattle.joined.specs.Joined.{Remains, Joined}
+use Rattle.pieces.specs.Joined.{Remains, Joined}
 use Rattle.unite.specs.Union.{united}
 use Rattle.unite.proofs.Neighbours.{united-hop}
 use Rattle.certificate.specs.Alike.{Alike}

@@ -16,7 +16,7 @@ use Rattle.network.specs.Chains.{Hop, Hop.by, Every}
 use Rattle.network.proofs.Chains.{chain-hop}
 use Rattle.plans.specs.Plans.{PlanMeets}
 use Rattle.kept.specs.Kept.{copyLine, keptLines}
-use Rattle.joined.specs.Joined.{Remains, Joined}
+use Rattle.pieces.specs.Joined.{Remains, Joined}
 use Rattle.certificate.specs.Alike.{Alike}
 use Rattle.certificate.proofs.Kept.{kept-alike}
 use Rattle.certificate.proofs.Seven.{differ, differ-same, one-side, seven, sevenRanks, seven-sound}

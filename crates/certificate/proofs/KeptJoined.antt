@@ -18,7 +18,7 @@ use Rattle.network.specs.Faults.{Sound}
 use Rattle.network.proofs.Chains.{joins-back, joins-in, chain-end, chain-join, chain-hop, chain-by}
 use Rattle.plans.specs.Published.{Greedy}
 use Rattle.plans.specs.Plans.{InPlay, OfRank, PlanMeets}
-use Rattle.joined.specs.Joined.{Remains, Joined}
+use Rattle.pieces.specs.Joined.{Remains, Joined}
 use Rattle.certificate.proofs.Colours.{Colour, Colour.gone, Colour.near, Colour.far, weight, gone-near, gone-far, near-far}
 use Rattle.certificate.proofs.Cut.{Split, no-split}
 use Rattle.certificate.proofs.Decidable.{dec-chain}

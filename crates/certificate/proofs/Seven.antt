@@ -15,7 +15,8 @@ use Rattle.laws.proofs.Fold.{first-all}
 use Rattle.network.specs.Lines.{endOne, endTwo, network, Joins, Joins.forth, Joins.back}
 use Rattle.network.specs.Chains.{Hop, Hop.by, Chain, Chain.here, Chain.step, Every}
 use Rattle.network.specs.Faults.{Sound}
-use Rattle.network.specs.Judging.{sameEnds, stationsJudged, lengthJudged, endsJudged, lineJudged, linesJudged, listJudged}
+use Rattle.limits.specs.Limits.{stationsJudged, lengthJudged}
+use Rattle.network.specs.Judging.{sameEnds, endsJudged, lineJudged, linesJudged, listJudged}
 use Rattle.network.proofs.Chains.{hop-back, chain-start, chain-join, chain-back}
 use Rattle.network.proofs.Sound.{taken-sound}
 use Rattle.plans.specs.Published.{MaximalForest}

@@ -6,7 +6,7 @@ use mathlib.Core.Bool.{Bool}
 use mathlib.Core.Logic.{_↔_}
 use mathlib.Core.List.{List}
 use Rattle.laws.specs.Count.{count}
-use Rattle.joined.specs.Joined.{Remains, Joined}
+use Rattle.pieces.specs.Joined.{Remains, Joined}
 
 pub record Alike (n k : ℕ) (first second : List ℕ) : Type 0 where
   pub same : (away : ℕ → Bool) → count n away < k

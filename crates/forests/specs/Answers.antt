@@ -5,7 +5,6 @@ use Rattle.kinds.specs.Answers.{Answer, Answer.given, refusalAnswer}
 use Rattle.plans.specs.Verdicts.{Kind, Kind.A, Kind.B, Kind.C, Kind.D, Kind.E, Verdict as Said, Verdict.accepted, Verdict.faulty}
 use Rattle.forests.specs.declared.FaultKind.{FaultKind}
 use Rattle.forests.specs.declared.FaultKind.the-variants.{RankAbove, NotEachOnce, ParentLacking, OtherParent, TreesApart}
-use Rattle.forests.specs.declared.Fault.{Fault}
 use Rattle.forests.specs.declared.Verdict.{Verdict}
 use Rattle.forests.specs.declared.Verdict.the-variants.{Accepted, Faulty}
 use Rattle.forests.specs.declared.Checked.{Checked}

@@ -7,32 +7,22 @@ use mathlib.Core.List.{List}
 use mathlib.Core.Logic.{_⊎_, _⊎_.inl, _⊎_.inr}
 use native.Mathlib.Decide.{ℕ-discrete, decLt, decLe}
 use native.Mathlib.Omega.{arith}
-use borrow.Author.Tests.{leb-false, eqb-true, lt-ltb, le-ltb, le-leb, lt-leb, eq-eqb, ne-eqb}
+use borrow.Author.Tests.{leb-false, lt-ltb, le-ltb, le-leb, lt-leb, eq-eqb, ne-eqb}
 use lib.Dec.{ltb, leb, eqb}
-use lib.ListN.{length, getD, set, take, replicate}
-use lib.Seq.{getD-set-same, getD-set-other, getD-take, length-take-le}
+use lib.ListN.{length, getD, set}
+use lib.Seq.{getD-set-same, getD-set-other}
 use Rattle.laws.specs.Fold.{anyFrom}
-use Rattle.laws.proofs.Fold.{FoundAt, FoundNone, first-cases, first-all, first-last, first-at, any-some, some-any, any-more}
-use Rattle.laws.proofs.Lists.{replicate-at}
-use Rattle.kinds.specs.Answers.{Answer, Answer.given, Answer.refused, taken, refuseIf, _andThen_, isRefused}
-use Rattle.kinds.proofs.Answers.{then-both, taken-is, passed, then-group}
+use Rattle.laws.proofs.Fold.{FoundAt, FoundNone, first-cases, first-all, first-last, first-at, any-more}
+use Rattle.kinds.specs.Answers.{Answer, Answer.refused, taken, refuseIf, _andThen_, isRefused}
+use Rattle.kinds.proofs.Answers.{then-both, taken-is, passed}
 use Rattle.network.specs.Judging.{listJudged}
 use Rattle.network.specs.Faults.{Sound}
 use Rattle.network.proofs.Sound.{taken-sound}
-use Rattle.joined.specs.Pieces.{isAway}
-use Rattle.joined.specs.Joined.{Remains}
-use Rattle.joined.specs.Rising.{Rising, RisesAt, FirstUnrisen}
+use Rattle.pieces.specs.Away.{isAway, isGone, Gone, Rising}
+use Rattle.pieces.specs.Joined.{Remains}
+use Rattle.joined.specs.Rising.{RisesAt, FirstUnrisen}
 use Rattle.joined.specs.Asking.{awayJudged, allAwayJudged, askedJudged}
-use Rattle.joined.specs.Marks.{isGone, Unmarked, Gone}
 use Rattle.laws.proofs.Truth.{neither}
-
--- The first two of three tries refuse, or are taken.
-pub then-refusal : {A : Type 0} (a b : Answer (Unit {0})) (c : Answer A) {number place list : ℕ} → a andThen b ≡ refused number place list
-    → refused number place list ≡ a andThen (b andThen c)
-then-refusal a b c e = rw e at (then-group a b c)
-
-pub then-taken : {A : Type 0} (a b : Answer (Unit {0})) (c : Answer A) → a andThen b ≡ taken → c ≡ a andThen (b andThen c)
-then-taken a b c e = rw e at (then-group a b c)
 
 -- ── 10 ──
 
@@ -122,17 +112,6 @@ module _ (n : ℕ) (away : List ℕ) where
 -- ── which stations are taken away, and 11 ──
 
 module _ (away : List ℕ) (v : ℕ) where
-  -- THEOREM. A station is taken away just when it stands in the list.
-  pub away-stands : isAway away v ≡ true → (j : ℕ) × (j < length away) × (getD away j 0 ≡ v)
-  unfolding isAway
-  away-stands e =
-      let (j, l, f) = any-some (λ j. eqb (getD away j 0) v) (length away) e in
-      (j, l, eqb-true (getD away j 0) v f)
-
-  pub stands-away : (j : ℕ) → j < length away → getD away j 0 ≡ v → isAway away v ≡ true
-  unfolding isAway
-  stands-away j l e = some-any (λ j. eqb (getD away j 0) v) (length away) j l (eq-eqb (getD away j 0) v e)
-
   -- THEOREM. A station may be asked about just when it remains.
   pub asked-remains : (n which : ℕ) → isRefused (askedJudged n away which v) ≡ false → Remains n (isAway away) v
   unfolding askedJudged
@@ -165,16 +144,6 @@ pub both-remain : (n : ℕ) (away : List ℕ) (a b : ℕ) → askedJudged n away
 both-remain n away a b e =
     let (x, y) = then-both (askedJudged n away 0 a) (askedJudged n away 1 b) (ap isRefused e) in
     (asked-remains away a n 0 x, asked-remains away b n 1 y)
-
--- Among marks none of which is set, the first n have none that is; and so have those of an array of them.
-pub unmarked-part : (n : ℕ) (gone : List Bool) → n ≤ length gone → Unmarked gone → Unmarked (take n gone)
-unmarked-part n gone h u =
-    record {
-      none = λ v l. let k : v < n = omega (arith, length-take-le n gone h) in getD-take n gone v false k ∙ u .none v (omega arith);
-    }
-
-pub unmarked-array : (n : ℕ) → Unmarked (replicate n false)
-unmarked-array n = record { none = λ v l. replicate-at n v false }
 
 -- The first j numbers of the list are marked: with one mark more, the first j + 1 are.
 pub mark-next : (away : List ℕ) (gone : List Bool) (j : ℕ) → getD away j 0 < length gone

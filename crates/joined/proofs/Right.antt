@@ -8,28 +8,19 @@ use mathlib.Core.Logic.{_⊎_, _⊎_.inl, _⊎_.inr}
 use borrow.Author.Tests.{leb-false}
 use lib.Dec.{leb}
 use Rattle.kinds.specs.Answers.{Answer, Answer.given, Answer.refused, taken, refuseIf, _andThen_, isRefused}
-use Rattle.kinds.proofs.Answers.{then-both, taken-is}
+use Rattle.kinds.proofs.Answers.{then-both, taken-is, then-cases}
 use Rattle.network.specs.Judging.{listJudged}
 use Rattle.network.specs.Faults.{Sound}
 use Rattle.network.proofs.Sound.{taken-sound, sound-taken, fault-refused, refused-fault}
-use Rattle.joined.specs.Joined.{Remains, Joined}
-use Rattle.joined.specs.Pieces.{isAway, onePiece}
-use Rattle.joined.specs.Rising.{Rising, Question}
+use Rattle.pieces.specs.Joined.{Remains, Joined}
+use Rattle.pieces.specs.Away.{isAway, Rising}
+use Rattle.pieces.specs.Pieces.{onePiece}
+use Rattle.joined.specs.Rising.{Question}
 use Rattle.joined.specs.Right.{Right, JoinedFault, JoinedFault.network, JoinedFault.unrisen, JoinedFault.first, JoinedFault.second}
 use Rattle.joined.specs.Asking.{allAwayJudged, askedJudged, joinedAnswer}
 use Rattle.joined.proofs.Asking.{taken-rising, rising-taken, unrisen-refused, refused-unrisen, asked-remains, remains-asked}
-use Rattle.joined.proofs.Chains.{one-piece-joined, joined-one-piece}
+use Rattle.pieces.proofs.Chains.{one-piece-joined, joined-one-piece}
 use Rattle.laws.proofs.Truth.{neither}
-
--- Tries that refuse: the first does, or it is taken and the rest does.
-then-cases : {A : Type 0} (a : Answer (Unit {0})) (b : Answer A) {number place list : ℕ} → a andThen b ≡ refused number place list
-    → (a ≡ refused number place list) ⊎ ((a ≡ taken) × (b ≡ refused number place list))
-then-cases (given x) b e = inr (refl, e)
-then-cases (refused number′ place′ list′) b {number} {place} {list} e =
-    let x : number′ ≡ number = cc in
-    let y : place′ ≡ place = cc in
-    let z : list′ ≡ list = cc in
-    inl (rw (x, y, z))
 
 -- 11 is refused just where the station does not remain.
 module _ (n : ℕ) (away : List ℕ) (which v : ℕ) where

@@ -8,7 +8,8 @@ use lib.Dec.{ltb, leb}
 use Rattle.laws.specs.Fold.{firstFrom}
 use Rattle.kinds.specs.Answers.{Answer, Answer.given, taken, refuseIf, _andThen_, isRefused}
 use Rattle.network.specs.Judging.{listJudged}
-use Rattle.joined.specs.Pieces.{isAway, onePiece}
+use Rattle.pieces.specs.Away.{isAway}
+use Rattle.pieces.specs.Pieces.{onePiece}
 
 -- 10: the number at an index of the taken-away list is n or more, or not above the one before it.
 unfoldable pub awayJudged : ℕ → List ℕ → ℕ → Answer (Unit {0})

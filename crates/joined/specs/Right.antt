@@ -6,9 +6,9 @@ use mathlib.Core.Bool.{Bool, true, false}
 use mathlib.Core.List.{List}
 use Rattle.kinds.specs.Answers.{Answer, Answer.given, isRefused}
 use Rattle.network.specs.Faults.{Sound, FirstFault}
-use Rattle.joined.specs.Joined.{Remains, Joined}
-use Rattle.joined.specs.Pieces.{isAway}
-use Rattle.joined.specs.Rising.{Rising, FirstUnrisen}
+use Rattle.pieces.specs.Joined.{Remains, Joined}
+use Rattle.pieces.specs.Away.{isAway, Rising}
+use Rattle.joined.specs.Rising.{FirstUnrisen}
 
 -- An answer that is not a refusal is true just where the two are joined, and false just where they are not.
 pub record Right (n : ℕ) (lines away : List ℕ) (a b : ℕ) (answer : Answer Bool) : Type 0 where

@@ -1,16 +1,11 @@
--- What refusals 10 and 11 are about: a list that rises strictly below n, and stations that may be asked about.
+-- What refusals 10 and 11 are about: where the list of stations taken away does not rise, and the stations that may be asked about.
 -- Assumes nothing.
-use Prim.Native.Nat.{ℕ, _+_, _-_, _<_}
+use Prim.Native.Nat.{ℕ, _-_, _<_}
 use mathlib.Core.List.{List}
 use lib.ListN.{length, getD}
 use Rattle.network.specs.Faults.{Sound}
-use Rattle.joined.specs.Pieces.{isAway}
-use Rattle.joined.specs.Joined.{Remains}
-
--- Every number is below n, and above the one before it.
-pub record Rising (n : ℕ) (away : List ℕ) : Type 0 where
-  pub below : (j : ℕ) → j < length away → getD away j 0 < n
-  pub above : (j : ℕ) → j + 1 < length away → getD away j 0 < getD away (j + 1) 0
+use Rattle.pieces.specs.Away.{isAway, Rising}
+use Rattle.pieces.specs.Joined.{Remains}
 
 -- The number at index j is below n, and above the one before it, if there is one.
 pub record RisesAt (n : ℕ) (away : List ℕ) (j : ℕ) : Type 0 where

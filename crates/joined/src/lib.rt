@@ -1,163 +1,33 @@
-// Whether two stations are joined when others are taken away, and the pieces of what remains.
+// Whether two stations are joined when others are taken away.
 use kinds::Asked;
 use kinds::Judged;
-use kinds::Place;
 use kinds::Position;
 use kinds::Refusal;
 use kinds::Station;
+use kinds::first_refusal;
 use kinds::is_refused;
 use network::judge;
-use network::line_at;
+use pieces::find_pieces;
 ghost use mathlib.Core.Path.{_≡_};
 ghost use mathlib.Core.Bool.{_||_};
 ghost use mathlib.Core.List.{List};
-ghost use Prim.Native.Nat.{ℕ, _/_, _<_, _≤_};
-ghost use lib.Dec.{leb, eqb};
-ghost use lib.ListN.{length, getD, set};
-ghost use Rattle.laws.specs.Fold.{upTo};
+ghost use Prim.Native.Nat.{ℕ, _<_, _≤_};
+ghost use lib.Dec.{leb};
+ghost use lib.ListN.{length};
 ghost use Rattle.kinds.specs.Answers.{Answer.given, judgedAnswer, refuseIf, _andThen_};
 ghost use Rattle.kinds.specs.Refusals.{askedNumber};
 ghost use Rattle.network.specs.Judging.{listJudged};
 ghost use Rattle.network.specs.Faults.{Sound};
 ghost use Rattle.joined.specs.Answers.{answeredAnswer};
 ghost use Rattle.joined.specs.Asking.{awayJudged, allAwayJudged, askedJudged, joinedAnswer};
-ghost use Rattle.joined.specs.Pieces.{isAway, alone, merge, joinLine, piecesOf, onePiece};
-ghost use Rattle.joined.specs.Rising.{Rising};
-ghost use Rattle.joined.specs.Marks.{isGone, Unmarked, Gone};
-ghost use Rattle.joined.specs.Tables.{Leads, Leading, Laid};
+ghost use Rattle.pieces.specs.Away.{isAway, isGone, Unmarked, Gone, Rising};
+ghost use Rattle.pieces.specs.Pieces.{onePiece};
 
 // What the joined question says: joined or apart, or why it refuses.
 pub enum Answered {
     Joined,
     Apart,
     Refused(Refusal),
-}
-
-// Whether a station is marked as taken away.
-fn is_gone(station: Station, gone: &[bool]) -> bool
-    requires { ⌜ station .0 < length (now gone) ⌝ }
-    ensures gone { λ r. ⌜ r ≡ isGone (now (gone .entry)) (station .0) ⌝ }
-{
-    let v = station.0 as usize;
-    gone[v]
-}
-
-// Whether a station's entry is the station itself.
-fn is_last(station: Station, pieces: &[u16]) -> bool
-    requires { ⌜ station .0 < length (now pieces) ⌝ }
-    ensures last { λ r. ⌜ r ≡ eqb (getD (now (pieces .entry)) (station .0) 0) (station .0) ⌝ }
-{
-    let v = station.0 as usize;
-    pieces[v] == station.0
-}
-
-// A station's entry skips one station on the way down; where it leads to then. This keeps the ways short.
-fn shorten(station: Station, pieces: &mut [u16]) -> Station
-    requires { ⌜ (station .0 < length (now pieces)) × Leading (now pieces) ⌝ }
-    ensures next { λ r. ⌜ r .0 ≡ getD (now (pieces .entry)) (getD (now (pieces .entry)) (station .0) 0) 0 ⌝ }
-    ensures table { λ r. ⌜ now (pieces .exit) ≡ set (now (pieces .entry)) (station .0) (getD (now (pieces .entry)) (getD (now (pieces .entry)) (station .0) 0) 0) ⌝ }
-{
-    let v = station.0 as usize;
-    let next = pieces[v] as usize;
-    let over = pieces[next];
-    pieces[v] = over;
-    Station(over)
-}
-
-// The station that names the piece of a station: the last on the way down.
-fn root_of(station: Station, pieces: &mut [u16]) -> Station
-    requires { ⌜ (station .0 < length (now pieces)) × Leading (now pieces) ⌝ }
-    ensures root { λ r. ⌜ ((names : List ℕ) → Leads names (now (pieces .entry)) → Leads names (now (pieces .exit)) × (r .0 ≡ getD names (station .0) 0)) ⌝ }
-{
-    let mut v = station;
-    while !is_last(v, pieces) {
-        v = shorten(v, pieces);
-    }
-    v
-}
-
-// Two pieces, by the stations that name them, become one: the higher station's entry is now the lower.
-fn join_roots(one: Station, two: Station, pieces: &mut [u16])
-    requires { ⌜ (one .0 < length (now pieces)) × (two .0 < length (now pieces)) ⌝ }
-    ensures joined { λ _. ⌜ ((names : List ℕ) → Leads names (now (pieces .entry)) → getD names (one .0) 0 ≡ one .0 → getD names (two .0) 0 ≡ two .0 → Leads (merge (one .0) (two .0) names) (now (pieces .exit))) ⌝ }
-{
-    let a = one.0 as usize;
-    let b = two.0 as usize;
-    if a < b {
-        pieces[b] = one.0;
-        return;
-    }
-    pieces[a] = two.0;
-}
-
-// The pieces of two stations become one.
-fn join_ends(one: Station, two: Station, pieces: &mut [u16])
-    requires { ⌜ (one .0 < length (now pieces)) × (two .0 < length (now pieces)) × Leading (now pieces) ⌝ }
-    ensures joined { λ _. ⌜ ((names : List ℕ) → Leads names (now (pieces .entry)) → Leads (merge (getD names (one .0) 0) (getD names (two .0) 0) names) (now (pieces .exit))) ⌝ }
-{
-    let first = root_of(one, pieces);
-    let second = root_of(two, pieces);
-    join_roots(first, second, pieces);
-}
-
-// The line at a place makes the pieces of its ends one, if both ends remain.
-fn join_line(place: Place, lines: &[u16], gone: &[bool], pieces: &mut [u16])
-    requires { ⌜ (place .0 < length (now lines) / 2) × Laid (now lines) (now gone) (now pieces) × Leading (now pieces) ⌝ }
-    ensures joined { λ _. ⌜ ((names : List ℕ) → Leads names (now (pieces .entry)) → Leads (joinLine (now (lines .entry)) (isGone (now (gone .entry))) (place .0) names) (now (pieces .exit))) ⌝ }
-{
-    let line = line_at(lines, place);
-    let one = line.one;
-    let two = line.two;
-    if is_gone(one, gone) {
-        return;
-    }
-    if is_gone(two, gone) {
-        return;
-    }
-    join_ends(one, two, pieces);
-}
-
-// Every line, in list order.
-fn join_lines(lines: &[u16], gone: &[bool], pieces: &mut [u16])
-    requires { ⌜ Laid (now lines) (now gone) (now pieces) × Leading (now pieces) ⌝ }
-    ensures joined { λ _. ⌜ ((names : List ℕ) → Leads names (now (pieces .entry)) → Leads (upTo (joinLine (now (lines .entry)) (isGone (now (gone .entry)))) names (length (now (lines .entry)) / 2)) (now (pieces .exit))) ⌝ }
-{
-    let count = lines.len() / 2;
-    for p in 0..count {
-        join_line(Place(p as u16), lines, gone, pieces);
-    }
-}
-
-// Each station is a piece of its own.
-fn set_alone(pieces: &mut [u16])
-    requires { ⌜ length (now pieces) ≤ 1024 ⌝ }
-    ensures alone { λ _. ⌜ now (pieces .exit) ≡ alone (length (now (pieces .entry))) ⌝ }
-{
-    let count = pieces.len();
-    for v in 0..count {
-        pieces[v] = v as u16;
-    }
-}
-
-// Each entry becomes the name of its piece: in rising order, an entry leads to one that is right already.
-fn set_names(pieces: &mut [u16])
-    requires { ⌜ (length (now pieces) ≤ 1024) × Leading (now pieces) ⌝ }
-    ensures names { λ _. ⌜ ((names : List ℕ) → Leads names (now (pieces .entry)) → now (pieces .exit) ≡ names) ⌝ }
-{
-    let count = pieces.len();
-    for v in 0..count {
-        shorten(Station(v as u16), pieces);
-    }
-}
-
-// The pieces of what remains: at each station, the lowest station of its piece.
-pub fn find_pieces(n: usize, lines: &[u16], gone: &[bool], pieces: &mut [u16])
-    requires { ⌜ Sound n (now lines) × (length (now gone) ≡ n) × (length (now pieces) ≡ n) ⌝ }
-    ensures pieces { λ _. ⌜ now (pieces .exit) ≡ piecesOf n (now (lines .entry)) (isGone (now (gone .entry))) ⌝ }
-{
-    set_alone(pieces);
-    join_lines(lines, gone, pieces);
-    set_names(pieces);
 }
 
 // Marks the stations of the taken-away list, where none is marked yet.
@@ -210,10 +80,11 @@ fn judge_asked(n: usize, gone: &[bool], asked: Asked, station: Station) -> Judge
     requires { ⌜ length (now gone) ≡ n ⌝ }
     ensures answer { λ r. ⌜ judgedAnswer r ≡ refuseIf (leb n (station .0) || isGone (now (gone .entry)) (station .0)) 11 (askedNumber asked) 0 ⌝ }
 {
-    if n <= station.0 as usize {
+    let v = station.0 as usize;
+    if n <= v {
         return Judged::Refused(Refusal::AskedStation(asked));
     }
-    if is_gone(station, gone) {
+    if gone[v] {
         return Judged::Refused(Refusal::AskedStation(asked));
     }
     Judged::Taken
@@ -225,10 +96,7 @@ fn judge_both(n: usize, gone: &[bool], one: Station, two: Station) -> Judged
     ensures answer { λ r. ⌜ ((away : List ℕ) → Gone away (now (gone .entry)) → judgedAnswer r ≡ (askedJudged n away 0 (one .0) andThen askedJudged n away 1 (two .0))) ⌝ }
 {
     let first = judge_asked(n, gone, Asked::First, one);
-    if is_refused(first) {
-        return first;
-    }
-    judge_asked(n, gone, Asked::Second, two)
+    first_refusal(first, judge_asked(n, gone, Asked::Second, two))
 }
 
 // The judge of a network and of a taken-away list: 1, 2, lines, 10.

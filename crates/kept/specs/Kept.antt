@@ -9,8 +9,7 @@ use Rattle.laws.specs.Fold.{pick, upTo}
 use Rattle.laws.specs.Count.{count}
 use Rattle.kinds.specs.Answers.{Answer, Answer.given, _andThen_, isRefused}
 use Rattle.network.specs.Lines.{endOne, endTwo}
-use Rattle.network.specs.Judging.{lengthJudged}
-use Rattle.request.specs.Judging.{roomJudged}
+use Rattle.limits.specs.Limits.{lengthJudged, roomJudged}
 
 -- Any nonzero rank is kept.
 abbrev pub isKept : List ℕ → ℕ → Bool

@@ -3,7 +3,7 @@ use kinds::Judged;
 use kinds::LineList;
 use kinds::Place;
 use kinds::Refusal;
-use network::judge_length;
+use limits::judge_length;
 use network::line_at;
 ghost use mathlib.Core.Path.{_≡_};
 ghost use mathlib.Core.Bool.{true};

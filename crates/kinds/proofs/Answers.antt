@@ -3,6 +3,7 @@
 use Prim.Native.Nat.{ℕ}
 use mathlib.Core.Path.{_≡_, refl, sym, ap}
 use mathlib.Core.Bool.{Bool, true, false, true≢false}
+use mathlib.Core.Logic.{_⊎_, _⊎_.inl, _⊎_.inr}
 use Rattle.kinds.specs.Answers.{Answer, Answer.given, Answer.refused, taken, refuseIf, _andThen_, isRefused}
 
 -- A try that does not refuse is passed over.
@@ -34,6 +35,24 @@ passed false number place list e = refl
 pub then-group : {A : Type 0} (a b : Answer (Unit {0})) (c : Answer A) → (a andThen b) andThen c ≡ a andThen (b andThen c)
 then-group (given x) b c = refl
 then-group (refused number place list) b c = refl
+
+-- Where the first two of three tries refuse, that is the answer; where they are taken, the third says it.
+pub then-refusal : {A : Type 0} (a b : Answer (Unit {0})) (c : Answer A) {number place list : ℕ} → a andThen b ≡ refused number place list
+    → refused number place list ≡ a andThen (b andThen c)
+then-refusal a b c e = rw e at (then-group a b c)
+
+pub then-taken : {A : Type 0} (a b : Answer (Unit {0})) (c : Answer A) → a andThen b ≡ taken → c ≡ a andThen (b andThen c)
+then-taken a b c e = rw e at (then-group a b c)
+
+-- Tries that refuse: the first does, or it is taken and the rest does.
+pub then-cases : {A : Type 0} (a : Answer (Unit {0})) (b : Answer A) {number place list : ℕ} → a andThen b ≡ refused number place list
+    → (a ≡ refused number place list) ⊎ ((a ≡ taken) × (b ≡ refused number place list))
+then-cases (given x) b e = inr (refl, e)
+then-cases (refused number′ place′ list′) b {number} {place} {list} e =
+    let x : number′ ≡ number = cc in
+    let y : place′ ≡ place = cc in
+    let z : list′ ≡ list = cc in
+    inl (rw (x, y, z))
 
 -- Two tries in order, by what each says.
 pub then-said : {A : Type 0} {x : Answer A} {a a′ : Answer (Unit {0})} {b b′ : Answer A} → x ≡ a andThen b → a ≡ a′ → b ≡ b′ → x ≡ a′ andThen b′

@@ -1,33 +1,26 @@
--- The laws of judging one line: what its ends and the lines before it make of it.
+-- The laws of judging sizes and one line: what its ends and the lines before it make of it.
 -- Assumes nothing.
-use Prim.Native.Nat.{ℕ, _*_, _/_, _%_, _≤_}
+use Prim.Native.Nat.{ℕ}
 use mathlib.Core.Path.{_≡_, sym, _∙_}
 use mathlib.Core.Bool.{true, false, _||_}
 use mathlib.Core.List.{List}
-use native.Mathlib.Omega.{arith}
-use borrow.Author.Tests.{ltb-false, leb-false, eqb-false}
-use lib.ListN.{length}
-use lib.Dec.{ltb, leb, eqb}
+use borrow.Author.Tests.{leb-false, eqb-false}
+use lib.Dec.{leb, eqb}
 use Rattle.kinds.specs.Answers.{Answer.refused, taken, refuseIf, isRefused}
 use Rattle.kinds.proofs.Answers.{then-next, then-refused, then-both, passed}
-use Rattle.network.specs.Lines.{endOne, endTwo}
+use Rattle.limits.specs.Limits.{stationsJudged, lengthJudged}
+use Rattle.limits.proofs.Limits.{stations-good, length-good}
+use Rattle.network.specs.Lines.{endOne, endTwo, Within}
 use Rattle.network.specs.Faults.{EndsGood}
-use Rattle.network.specs.Judging.{stoodBefore, stationsJudged, lengthJudged, endsJudged, lineJudged}
+use Rattle.network.specs.Judging.{stoodBefore, endsJudged, lineJudged}
 use Rattle.laws.proofs.Truth.{neither}
 
--- What is known of n and of a list's length that are not refused.
-pub stations-good : (n : ℕ) → isRefused (stationsJudged n) ≡ false → (1 ≤ n) × (n ≤ 1024)
-unfolding stationsJudged
-stations-good n e =
-    let (x, y) = neither (ltb n 1) (ltb 1024 n) (passed (ltb n 1 || ltb 1024 n) 1 0 0 e) in
-    (ltb-false n 1 x, ltb-false 1024 n y)
-
-pub length-good : (list : ℕ) (lines : List ℕ) → isRefused (lengthJudged list lines) ≡ false → (length lines ≡ 2 * (length lines / 2)) × (length lines ≤ 16384)
-unfolding lengthJudged
-length-good list lines e =
-    let (x, y) = neither (eqb (length lines % 2) 1) (ltb 16384 (length lines)) (passed (eqb (length lines % 2) 1 || ltb 16384 (length lines)) 2 0 list e) in
-    let odd : (length lines % 2 ≡ 1 → ⊥) = eqb-false (length lines % 2) 1 x in
-    (omega arith, ltb-false 16384 (length lines) y)
+-- Stations and a list whose numbers are not refused are within the limits.
+pub within-good : (list n : ℕ) (lines : List ℕ) → isRefused (stationsJudged n) ≡ false → isRefused (lengthJudged list lines) ≡ false → Within n lines
+within-good list n lines e f =
+    let (some, most) = stations-good n e in
+    let (even, few) = length-good list lines f in
+    record { some = some; most = most; even = even; few = few }
 
 -- What is known of ends that are not refused.
 pub ends-good : (list n a b p : ℕ) → isRefused (endsJudged list n a b p) ≡ false → EndsGood n a b

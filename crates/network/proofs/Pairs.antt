@@ -17,34 +17,30 @@ use Rattle.bits.specs.Sets.{isIn, putIn}
 use Rattle.bits.proofs.Sets.{in-put, in-none, length-put}
 use Rattle.network.specs.Lines.{endOne, endTwo}
 use Rattle.network.specs.Judging.{sameEnds, stoodBefore}
-use Rattle.network.specs.Pairs.{pairAt, pairNumber, Remembers}
+use Rattle.network.specs.Pairs.{pairsOf, pairAt, pairNumber, Remembers}
 use Rattle.network.proofs.Ends.{same-ends, ends-same}
 
--- How many pairs have a higher station below h.
-abbrev pairsBelow : ℕ → ℕ
-pairsBelow h = h * (h - 1) / 2
-
-pairs-next : (h : ℕ) → pairsBelow (suc h) ≡ pairsBelow h + h
+pairs-next : (h : ℕ) → pairsOf (suc h) ≡ pairsOf h + h
 pairs-next zero = refl
 pairs-next (suc g) =
     let e : suc g - 1 ≡ g = omega arith in
     let f : suc (suc g) - 1 ≡ suc g = omega arith in
     rw (e, f) (omega (arith, suc-mul (suc g) (suc g), mul-suc (suc g) g))
 
-pairs-rise : (h k : ℕ) → h ≤ k → pairsBelow h ≤ pairsBelow k
+pairs-rise : (h k : ℕ) → h ≤ k → pairsOf h ≤ pairsOf k
 pairs-rise h zero l = let e : h ≡ 0 = omega arith in rw e (omega arith)
 pairs-rise h (suc k) l = go (ℕ-discrete h (suc k)) (λ m. pairs-rise h k m)
   where
-    go : Dec (h ≡ suc k) → (h ≤ k → pairsBelow h ≤ pairsBelow k) → pairsBelow h ≤ pairsBelow (suc k)
+    go : Dec (h ≡ suc k) → (h ≤ k → pairsOf h ≤ pairsOf k) → pairsOf h ≤ pairsOf (suc k)
     go (yes e) ih = rw e (omega arith)
     go (no n) ih = omega (arith, ih (omega arith), pairs-next k)
 
 -- The pair's number stands among those of its higher station.
-pair-above : (low high : ℕ) → pairsBelow high ≤ pairAt low high
+pair-above : (low high : ℕ) → pairsOf high ≤ pairAt low high
 unfolding pairAt
 pair-above low high = omega arith
 
-pair-below : (low high top : ℕ) → low < high → high < top → pairAt low high < pairsBelow top
+pair-below : (low high top : ℕ) → low < high → high < top → pairAt low high < pairsOf top
 unfolding pairAt
 pair-below low high top l h = omega (arith, pairs-next high, pairs-rise (suc high) top (omega arith))
 
@@ -107,25 +103,29 @@ number-test a b c d n m = go (eqb (pairNumber c d) (pairNumber a b)) (sameEnds a
         sym (sym f ∙ ends-same a b c d (number-once a b c d n m (sym (eqb-true (pairNumber c d) (pairNumber a b) e))))
     go false true e f = absurd (eqb-false (pairNumber c d) (pairNumber a b) e (once-number a b c d n (same-ends a b c d f)))
 
--- 8,184 words have room for every pair of 1,024 stations.
-number-fits : (a b : ℕ) → a < 1024 → b < 1024 → a ≢ b → pairNumber a b / 64 < 8184
-number-fits a b h k n = go (decLt a b)
+-- Words with a bit for each pair of n stations have one for this pair.
+number-fits : (n words a b : ℕ) → pairsOf n ≤ 64 * words → a < n → b < n → a ≢ b → pairNumber a b / 64 < words
+number-fits n words a b room h k m = go (decLt a b)
   where
-    go : Dec (a < b) → pairNumber a b / 64 < 8184
-    go (yes l) = omega (arith, pair-lower a b l, pair-below a b 1024 l k)
-    go (no l) = omega (arith, pair-higher a b (omega arith), pair-below b a 1024 (omega arith) h)
+    go : Dec (a < b) → pairNumber a b / 64 < words
+    go (yes l) = omega (arith, pair-lower a b l, pair-below a b n l k)
+    go (no l) = omega (arith, pair-higher a b (omega arith), pair-below b a n (omega arith) h)
 
--- Before any line, nothing is remembered.
-pub remember-none : (lines : List ℕ) → Remembers (replicate 8184 0) lines 0
+-- Before any line, nothing is remembered; words for the most stations are enough for fewer.
+pub remember-none : (most words n : ℕ) (lines : List ℕ) → pairsOf most ≤ 64 * words → n ≤ most → Remembers n (replicate words 0) lines 0
 unfolding firstFrom
-remember-none lines = record { words = length-replicate {A = ℕ} 8184 0; exactly = λ a b h k n. in-none 8184 (pairNumber a b) }
+remember-none most words n lines room few =
+    record {
+      room = omega (arith, length-replicate {A = ℕ} words 0, pairs-rise n most few);
+      exactly = λ a b h k m. in-none words (pairNumber a b);
+    }
 
 -- Putting in the pair of the line at place p remembers one line more.
-pub remember-more : (pairs lines : List ℕ) (p : ℕ) → Remembers pairs lines p
-    → endOne lines p < 1024 → endTwo lines p < 1024 → endOne lines p ≢ endTwo lines p
-    → Remembers (putIn pairs (pairNumber (endOne lines p) (endTwo lines p))) lines (p + 1)
-remember-more pairs lines p R h k n =
-    record { words = length-put pairs (pairNumber (endOne lines p) (endTwo lines p)) ∙ R .words; exactly = exactly }
+pub remember-more : (n : ℕ) (pairs lines : List ℕ) (p : ℕ) → Remembers n pairs lines p
+    → endOne lines p < n → endTwo lines p < n → endOne lines p ≢ endTwo lines p
+    → Remembers n (putIn pairs (pairNumber (endOne lines p) (endTwo lines p))) lines (p + 1)
+remember-more n pairs lines p R h k d =
+    record { room = omega (arith, R .room, length-put pairs (pairNumber (endOne lines p) (endTwo lines p))); exactly = exactly }
   where
     swap : (x y : Bool) → (x || y) ≡ (y || x)
     swap true true = refl
@@ -133,9 +133,9 @@ remember-more pairs lines p R h k n =
     swap false true = refl
     swap false false = refl
 
-    exactly : (a b : ℕ) → a < 1024 → b < 1024 → a ≢ b → isIn (putIn pairs (pairNumber (endOne lines p) (endTwo lines p))) (pairNumber a b) ≡ stoodBefore lines (p + 1) a b
+    exactly : (a b : ℕ) → a < n → b < n → a ≢ b → isIn (putIn pairs (pairNumber (endOne lines p) (endTwo lines p))) (pairNumber a b) ≡ stoodBefore lines (p + 1) a b
     exactly a b ha hb m =
-        let fits : pairNumber (endOne lines p) (endTwo lines p) / 64 < length pairs = rw (R .words) (number-fits (endOne lines p) (endTwo lines p) h k n) in
+        let fits : pairNumber (endOne lines p) (endTwo lines p) / 64 < length pairs = number-fits n (length pairs) (endOne lines p) (endTwo lines p) (R .room) h k d in
         in-put pairs (pairNumber (endOne lines p) (endTwo lines p)) (pairNumber a b) fits
-        ∙ (rw (number-test a b (endOne lines p) (endTwo lines p) m n, R .exactly a b ha hb m)
+        ∙ (rw (number-test a b (endOne lines p) (endTwo lines p) m d, R .exactly a b ha hb m)
         (swap (sameEnds a b (endOne lines p) (endTwo lines p)) (stoodBefore lines p a b) ∙ sym (any-more (λ q. sameEnds a b (endOne lines q) (endTwo lines q)) p)))

@@ -12,12 +12,13 @@ use lib.Dec.{ltb, leb, eqb}
 use lib.ListN.{length}
 use Rattle.laws.proofs.Fold.{FoundAt, FoundNone, first-cases, first-all, first-last, first-at, any-some, some-any}
 use Rattle.kinds.specs.Answers.{Answer, Answer.refused, taken, refuseIf, isRefused}
-use Rattle.kinds.proofs.Answers.{then-both, passed}
+use Rattle.kinds.proofs.Answers.{then-both, passed, taken-is}
 use Rattle.network.specs.Lines.{endOne, endTwo, network, Joins, Joins.forth, Joins.back, Simple, Within}
-use Rattle.network.specs.Judging.{sameEnds, stoodBefore, stationsJudged, lengthJudged, endsJudged, lineJudged, linesJudged, listJudged}
+use Rattle.limits.specs.Limits.{stationsJudged, lengthJudged}
+use Rattle.network.specs.Judging.{sameEnds, stoodBefore, endsJudged, lineJudged, linesJudged, listJudged}
 use Rattle.network.specs.Faults.{Sound, EndsGood, LineGood, LineFault, LineFault.outside, LineFault.equal, LineFault.stood, FirstFault, FirstFault.stations, FirstFault.numbers, FirstFault.line}
 use Rattle.network.proofs.Ends.{same-ends, ends-same}
-use Rattle.network.proofs.Judging.{ends-good}
+use Rattle.network.proofs.Judging.{ends-good, within-good}
 
 -- ── one line ──
 
@@ -190,6 +191,10 @@ module _ (list n : ℕ) (lines : List ℕ) where
       go : Sound n lines ⊎ ((number place which : ℕ) × FirstFault list n lines number place which) → Sound n lines
       go (inl s) = s
       go (inr (number, place, which, f)) = absurd (true≢false (ap isRefused (sym (fault-refused f) ∙ e)))
+
+  -- the same, where the parts of the judge are tried among others
+  pub parts-sound : isRefused (stationsJudged n) ≡ false → isRefused (lengthJudged list lines) ≡ false → isRefused (linesJudged list n lines) ≡ false → Sound n lines
+  parts-sound s l e = taken-sound (lines-only (within-good list n lines s l) ∙ taken-is (linesJudged list n lines) e)
 
   -- THEOREM. What is refused has that fault, as its first.
   pub refused-fault : {number place which : ℕ} → listJudged list n lines ≡ refused number place which → FirstFault list n lines number place which

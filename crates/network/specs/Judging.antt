@@ -1,12 +1,13 @@
 -- The judge of lines: refusals 1 and 2, then each line in list order for 6, 7 and 8.
 -- Assumes nothing.
-use Prim.Native.Nat.{ℕ, _/_, _%_}
+use Prim.Native.Nat.{ℕ, _/_}
 use mathlib.Core.Bool.{Bool, _&&_, _||_}
 use mathlib.Core.List.{List}
 use lib.ListN.{length}
-use lib.Dec.{ltb, leb, eqb}
+use lib.Dec.{leb, eqb}
 use Rattle.laws.specs.Fold.{firstFrom, anyFrom}
 use Rattle.kinds.specs.Answers.{Answer, taken, refuseIf, _andThen_, isRefused}
+use Rattle.limits.specs.Limits.{stationsJudged, lengthJudged}
 use Rattle.network.specs.Lines.{endOne, endTwo}
 
 -- a b and c d are the same two stations, either way round.
@@ -16,14 +17,6 @@ sameEnds a b c d = (eqb a c && eqb b d) || (eqb a d && eqb b c)
 -- Whether one of the lines before place p has the ends a and b.
 abbrev pub stoodBefore : List ℕ → ℕ → ℕ → ℕ → Bool
 stoodBefore lines p a b = anyFrom (λ q. sameEnds a b (endOne lines q) (endTwo lines q)) 0 p
-
--- 1: n is not 1 to 1,024.
-unfoldable pub stationsJudged : ℕ → Answer (Unit {0})
-stationsJudged n = refuseIf (ltb n 1 || ltb 1024 n) 1 0 0
-
--- 2: the line list has an odd length or over 16,384 numbers.
-unfoldable pub lengthJudged : ℕ → List ℕ → Answer (Unit {0})
-lengthJudged list lines = refuseIf (eqb (length lines % 2) 1 || ltb 16384 (length lines)) 2 0 list
 
 -- 6: a line end is n or more; 7: a line's ends are equal. Of the line a b at place p.
 unfoldable pub endsJudged : ℕ → ℕ → ℕ → ℕ → ℕ → Answer (Unit {0})

@@ -1,6 +1,6 @@
 -- How the judge remembers which pairs of stations have a line: a set of pairs, by the pair's number.
 -- Only helpers, of the judge and of the union, speak of it. Assumes nothing.
-use Prim.Native.Nat.{ℕ, _+_, _-_, _*_, _/_, _<_}
+use Prim.Native.Nat.{ℕ, _+_, _-_, _*_, _/_, _<_, _≤_}
 use mathlib.Core.Path.{_≡_}
 use mathlib.Core.Logic.{_≢_}
 use mathlib.Core.List.{List}
@@ -10,15 +10,19 @@ use Rattle.laws.specs.Fold.{pick}
 use Rattle.bits.specs.Sets.{isIn}
 use Rattle.network.specs.Judging.{stoodBefore}
 
--- The pairs with the higher station h come after all those with a lower one, of which there are h (h - 1) / 2.
+-- How many pairs n stations make.
+abbrev pub pairsOf : ℕ → ℕ
+pairsOf n = n * (n - 1) / 2
+
+-- The pairs with this higher station come after all those of the stations below it.
 unfoldable pub pairAt : ℕ → ℕ → ℕ
-pairAt low high = high * (high - 1) / 2 + low
+pairAt low high = pairsOf high + low
 
 -- The number of a pair of stations, the same either way round.
 unfoldable pub pairNumber : ℕ → ℕ → ℕ
 pairNumber a b = pick (ltb a b) (pairAt a b) (pairAt b a)
 
--- The set holds just the pairs of the lines before place p; 8,184 words have a bit for each pair of 1,024 stations.
-pub record Remembers (pairs lines : List ℕ) (p : ℕ) : Type 0 where
-  pub words : length pairs ≡ 8184
-  pub exactly : (a b : ℕ) → a < 1024 → b < 1024 → a ≢ b → isIn pairs (pairNumber a b) ≡ stoodBefore lines p a b
+-- The set has a bit for each pair of n stations, 64 to a word, and holds just the pairs of the lines before place p.
+pub record Remembers (n : ℕ) (pairs lines : List ℕ) (p : ℕ) : Type 0 where
+  pub room : pairsOf n ≤ 64 * length pairs
+  pub exactly : (a b : ℕ) → a < n → b < n → a ≢ b → isIn pairs (pairNumber a b) ≡ stoodBefore lines p a b

@@ -7,6 +7,8 @@ use kinds::Round;
 use kinds::Station;
 use kinds::first_refusal;
 use kinds::is_refused;
+use limits::judge_length;
+use limits::judge_stations;
 ghost use mathlib.Core.Path.{_≡_};
 ghost use mathlib.Core.Bool.{false};
 ghost use mathlib.Core.Logic.{_≢_};
@@ -15,7 +17,7 @@ ghost use lib.ListN.{length, getD};
 ghost use Rattle.kinds.specs.Answers.{isRefused, judgedAnswer};
 ghost use Rattle.kinds.specs.Refusals.{listNumber};
 ghost use Rattle.network.specs.Lines.{endOne, endTwo};
-ghost use Rattle.network.specs.Judging.{stationsJudged, lengthJudged, endsJudged, lineJudged, linesJudged, listJudged};
+ghost use Rattle.network.specs.Judging.{endsJudged, lineJudged, linesJudged, listJudged};
 ghost use Rattle.network.specs.Pairs.{pairAt, pairNumber, Remembers};
 
 // A line: its two ends, as written.
@@ -53,32 +55,6 @@ pub fn rank_at(ranks: &[u8], place: Place) -> Round
         return Round(ranks[p]);
     }
     Round(0)
-}
-
-// Refusal 1: n is not 1 to 1,024.
-pub fn judge_stations(n: usize) -> Judged
-    ensures answer { λ r. ⌜ judgedAnswer r ≡ stationsJudged n ⌝ }
-{
-    if n < 1 {
-        return Judged::Refused(Refusal::StationCount);
-    }
-    if 1024 < n {
-        return Judged::Refused(Refusal::StationCount);
-    }
-    Judged::Taken
-}
-
-// Refusal 2: the line list has an odd length or over 16,384 numbers.
-pub fn judge_length(list: LineList, lines: &[u16]) -> Judged
-    ensures answer { λ r. ⌜ judgedAnswer r ≡ lengthJudged (listNumber list) (now (lines .entry)) ⌝ }
-{
-    if lines.len() % 2 == 1 {
-        return Judged::Refused(Refusal::LineCount(list));
-    }
-    if 16384 < lines.len() {
-        return Judged::Refused(Refusal::LineCount(list));
-    }
-    Judged::Taken
 }
 
 // Refusals 6 and 7: whether each end is a station, and whether the two differ.
@@ -123,9 +99,9 @@ pub fn pair_number(line: Line) -> usize
 
 // The line at a place: refusals 6, 7 and 8. `pairs` remembers the lines before it, and then this one too.
 fn judge_line(list: LineList, n: usize, lines: &[u16], place: Place, pairs: &mut [u64]) -> Judged
-    requires { ⌜ (n ≤ 1024) × Remembers (now pairs) (now lines) (place .0) ⌝ }
+    requires { ⌜ (n ≤ 1024) × Remembers n (now pairs) (now lines) (place .0) ⌝ }
     ensures answer { λ r. ⌜ judgedAnswer r ≡ lineJudged (listNumber list) n (now (lines .entry)) (place .0) ⌝ }
-    ensures remembers { λ r. ⌜ (isRefused (judgedAnswer r) ≡ false → Remembers (now (pairs .exit)) (now (lines .entry)) (place .0 + 1)) ⌝ }
+    ensures remembers { λ r. ⌜ (isRefused (judgedAnswer r) ≡ false → Remembers n (now (pairs .exit)) (now (lines .entry)) (place .0 + 1)) ⌝ }
 {
     let line = line_at(lines, place);
     let ends = judge_ends(list, n, line, place);
@@ -142,7 +118,7 @@ fn judge_line(list: LineList, n: usize, lines: &[u16], place: Place, pairs: &mut
 
 // Each line in list order, with a set of pairs that remembers none yet.
 fn judge_each(list: LineList, n: usize, lines: &[u16], pairs: &mut [u64]) -> Judged
-    requires { ⌜ (n ≤ 1024) × (length (now lines) ≤ 16384) × Remembers (now pairs) (now lines) 0 ⌝ }
+    requires { ⌜ (n ≤ 1024) × (length (now lines) ≤ 16384) × Remembers n (now pairs) (now lines) 0 ⌝ }
     ensures answer { λ r. ⌜ judgedAnswer r ≡ linesJudged (listNumber list) n (now (lines .entry)) ⌝ }
 {
     let count = lines.len() / 2;
@@ -155,13 +131,33 @@ fn judge_each(list: LineList, n: usize, lines: &[u16], pairs: &mut [u64]) -> Jud
     Judged::Taken
 }
 
-// Each line in list order: refusals 6, 7 and 8. A bit for each pair of stations makes the time linear in the lines.
-fn judge_lines(list: LineList, n: usize, lines: &[u16]) -> Judged
+// Each line in list order, of up to 256 stations, with a bit for each pair of them.
+fn judge_few(list: LineList, n: usize, lines: &[u16]) -> Judged
+    requires { ⌜ (n ≤ 256) × (length (now lines) ≤ 16384) ⌝ }
+    ensures answer { λ r. ⌜ judgedAnswer r ≡ linesJudged (listNumber list) n (now (lines .entry)) ⌝ }
+{
+    let mut pairs = [0u64; 510];
+    judge_each(list, n, lines, &mut pairs)
+}
+
+// Each line in list order, of up to 1,024 stations, with a bit for each pair of them.
+fn judge_many(list: LineList, n: usize, lines: &[u16]) -> Judged
     requires { ⌜ (n ≤ 1024) × (length (now lines) ≤ 16384) ⌝ }
     ensures answer { λ r. ⌜ judgedAnswer r ≡ linesJudged (listNumber list) n (now (lines .entry)) ⌝ }
 {
     let mut pairs = [0u64; 8184];
     judge_each(list, n, lines, &mut pairs)
+}
+
+// Each line in list order: refusals 6, 7 and 8. A bit for each pair makes the time linear in the lines; few stations need few bits cleared.
+fn judge_lines(list: LineList, n: usize, lines: &[u16]) -> Judged
+    requires { ⌜ (n ≤ 1024) × (length (now lines) ≤ 16384) ⌝ }
+    ensures answer { λ r. ⌜ judgedAnswer r ≡ linesJudged (listNumber list) n (now (lines .entry)) ⌝ }
+{
+    if n <= 256 {
+        return judge_few(list, n, lines);
+    }
+    judge_many(list, n, lines)
 }
 
 // The judge of one of several lists: refusal 1, then 2, then each line in list order for 6, 7 and 8.

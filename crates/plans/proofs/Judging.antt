@@ -1,25 +1,17 @@
 -- What a plan that is not refused is: its list is sound, its level is 1 to 16, and there is an entry for each station of each round.
 -- Assumes nothing.
 use Prim.Native.Nat.{ℕ, _≤_}
-use mathlib.Core.Path.{_≡_, _∙_}
+use mathlib.Core.Path.{_≡_}
 use mathlib.Core.Bool.{Bool, false}
-use mathlib.Core.List.{List, []}
+use mathlib.Core.List.{List}
 use Rattle.kinds.specs.Answers.{isRefused, _andThen_}
-use Rattle.kinds.proofs.Answers.{then-both, taken-is, passed}
-use Rattle.network.specs.Lines.{Within}
+use Rattle.kinds.proofs.Answers.{then-both, passed}
 use Rattle.network.specs.Faults.{Sound}
-use Rattle.network.specs.Judging.{stationsJudged, lengthJudged, linesJudged}
-use Rattle.network.proofs.Judging.{stations-good, length-good}
-use Rattle.network.proofs.Sound.{lines-only, taken-sound}
-use Rattle.request.specs.Judging.{levelJudged, roomJudged}
-use Rattle.request.proofs.Judging.{level-good}
+use Rattle.limits.specs.Limits.{stationsJudged, lengthJudged, levelJudged, roomJudged}
+use Rattle.network.specs.Judging.{linesJudged}
+use Rattle.limits.proofs.Limits.{level-good}
+use Rattle.network.proofs.Sound.{parts-sound}
 use Rattle.plans.specs.Checking.{planJudged}
-
-pub within-good : (list n : ℕ) (lines : List ℕ) → isRefused (stationsJudged n) ≡ false → isRefused (lengthJudged list lines) ≡ false → Within n lines
-within-good list n lines e f =
-    let (some, most) = stations-good n e in
-    let (even, few) = length-good list lines f in
-    record { some = some; most = most; even = even; few = few }
 
 pub record Planned (n k : ℕ) (lines : List ℕ) (short : Bool) : Type 0 where
   pub sound : Sound n lines
@@ -34,10 +26,9 @@ plan-good n k lines short e =
     let (l, e₂) = then-both (lengthJudged 0 lines) (levelJudged k andThen roomJudged short andThen linesJudged 0 n lines) e₁ in
     let (v, e₃) = then-both (levelJudged k) (roomJudged short andThen linesJudged 0 n lines) e₂ in
     let (r, e₄) = then-both (roomJudged short) (linesJudged 0 n lines) e₃ in
-    let w = within-good 0 n lines s l in
     record {
-      sound = taken-sound 0 n lines (lines-only 0 n lines w ∙ taken-is (linesJudged 0 n lines) e₄);
-      some = level-good n k lines [] short v .0;
-      most = level-good n k lines [] short v .1;
+      sound = parts-sound 0 n lines s l e₄;
+      some = level-good k v .0;
+      most = level-good k v .1;
       room = passed short 5 0 0 r;
     }

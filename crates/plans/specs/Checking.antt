@@ -8,8 +8,9 @@ use lib.Dec.{ltb, leb, eqb}
 use Rattle.laws.specs.Fold.{pick, upTo, firstFrom, anyFrom, lowest}
 use Rattle.kinds.specs.Answers.{Answer, Answer.given, _andThen_}
 use Rattle.network.specs.Lines.{endOne, endTwo}
-use Rattle.network.specs.Judging.{sameEnds, stationsJudged, lengthJudged, linesJudged}
-use Rattle.request.specs.Judging.{levelJudged, roomJudged, planShort}
+use Rattle.limits.specs.Limits.{stationsJudged, lengthJudged, levelJudged, roomJudged}
+use Rattle.network.specs.Judging.{sameEnds, linesJudged}
+use Rattle.request.specs.Judging.{planShort}
 use Rattle.plans.specs.Verdicts.{Kind.A, Kind.B, Kind.C, Kind.D, Kind.E, Verdict, Verdict.accepted, faultIf, _orElse_, isFaulty}
 
 -- In round i the lines in play are those of rank 0 or at least i.

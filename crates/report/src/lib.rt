@@ -13,7 +13,7 @@ use network::rank_at;
 ghost use Prim.Native.Nat.{_+_, _*_, _/_, _≤_, _<_};
 ghost use mathlib.Core.Path.{_≡_};
 ghost use mathlib.Core.List.{[], _∷_};
-ghost use lib.ListN.{length, getD};
+ghost use lib.ListN.{length};
 ghost use Rattle.kinds.specs.Refusals.{numberOf, placeOf};
 ghost use Rattle.report.specs.Answers.{keepShort, refusedShort, writtenAnswer, writtenOver};
 ghost use Rattle.report.specs.Text.{decimal, field, stationsText, levelText, linesText, keptCountText, roundText, placeText, fromText, toText, refusedNumberText, atText, newline, headerText, lineText, rowText, keptText, keepText, refusedText};

@@ -1,30 +1,25 @@
 -- The laws of judging a request: it is taken just when it is in order.
 -- Assumes nothing.
-use Prim.Native.Nat.{ℕ, _+_, _<_, _≤_}
+use Prim.Native.Nat.{ℕ, _+_, _<_}
 use mathlib.Core.Path.{_≡_, sym, _∙_}
-use mathlib.Core.Bool.{Bool, false, not, _||_}
+use mathlib.Core.Bool.{Bool, false, not}
 use mathlib.Core.List.{List}
 use native.Mathlib.Omega.{arith}
-use borrow.Author.Tests.{ltb-false, leb-false, eqb-true, not-false, le-ltb, lt-leb, eq-eqb}
-use lib.Dec.{ltb, leb, eqb}
+use borrow.Author.Tests.{leb-false, eqb-true, not-false, le-ltb, lt-leb, eq-eqb}
+use lib.Dec.{leb, eqb}
 use lib.ListN.{length, getD}
 use Rattle.laws.proofs.Fold.{first-all, first-last}
 use Rattle.kinds.specs.Answers.{taken, _andThen_, isRefused}
 use Rattle.kinds.proofs.Answers.{then-both, taken-is, passed}
-use Rattle.network.specs.Judging.{stationsJudged, lengthJudged, linesJudged, listJudged}
-use Rattle.network.proofs.Judging.{stations-good, length-good}
+use Rattle.limits.specs.Limits.{stationsJudged, lengthJudged, levelJudged, roomJudged}
+use Rattle.network.specs.Judging.{linesJudged, listJudged}
+use Rattle.limits.proofs.Limits.{level-good}
+use Rattle.network.proofs.Judging.{within-good}
 use Rattle.network.proofs.Sound.{within-taken, lines-only, taken-sound, sound-taken}
-use Rattle.request.specs.Judging.{levelJudged, startCountJudged, roomJudged, startJudged, startsJudged, sizesJudged, requestJudged}
+use Rattle.request.specs.Judging.{startCountJudged, startJudged, startsJudged, sizesJudged, requestJudged}
 use Rattle.request.specs.Requests.{Sized, Request}
-use Rattle.laws.proofs.Truth.{neither}
 
 module _ (n k : ℕ) (lines starts : List ℕ) (short : Bool) where
-  pub level-good : isRefused (levelJudged k) ≡ false → (1 ≤ k) × (k ≤ 16)
-  unfolding levelJudged
-  level-good e =
-      let (x, y) = neither (ltb k 1) (ltb 16 k) (passed (ltb k 1 || ltb 16 k) 3 0 0 e) in
-      (ltb-false k 1 x, ltb-false 16 k y)
-
   pub sizes-good : isRefused (sizesJudged n k lines starts short) ≡ false → Sized n k lines starts short
   unfolding sizesJudged startCountJudged roomJudged
   sizes-good e =
@@ -32,12 +27,10 @@ module _ (n k : ℕ) (lines starts : List ℕ) (short : Bool) where
       let (l, e₂) = then-both (lengthJudged 0 lines) (levelJudged k andThen startCountJudged k starts andThen roomJudged short) e₁ in
       let (v, e₃) = then-both (levelJudged k) (startCountJudged k starts andThen roomJudged short) e₂ in
       let (c, r) = then-both (startCountJudged k starts) (roomJudged short) e₃ in
-      let (some, most) = stations-good n s in
-      let (even, few) = length-good 0 lines l in
       record {
-        within = record { some = some; most = most; even = even; few = few };
-        some = level-good v .0;
-        most = level-good v .1;
+        within = within-good 0 n lines s l;
+        some = level-good k v .0;
+        most = level-good k v .1;
         starts-count = eqb-true (length starts) k (not-false (eqb (length starts) k) (passed (not (eqb (length starts) k)) 4 0 0 c));
         room = passed short 5 0 0 r;
       }

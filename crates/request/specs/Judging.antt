@@ -7,19 +7,12 @@ use lib.ListN.{length, getD}
 use lib.Dec.{ltb, leb, eqb}
 use Rattle.laws.specs.Fold.{firstFrom}
 use Rattle.kinds.specs.Answers.{Answer, taken, refuseIf, _andThen_, isRefused}
-use Rattle.network.specs.Judging.{stationsJudged, lengthJudged, linesJudged}
-
--- 3: k is not 1 to 16.
-unfoldable pub levelJudged : ℕ → Answer (Unit {0})
-levelJudged k = refuseIf (ltb k 1 || ltb 16 k) 3 0 0
+use Rattle.limits.specs.Limits.{stationsJudged, lengthJudged, levelJudged, roomJudged}
+use Rattle.network.specs.Judging.{linesJudged}
 
 -- 4: the number of starting stations is not k.
 unfoldable pub startCountJudged : ℕ → List ℕ → Answer (Unit {0})
 startCountJudged k starts = refuseIf (not (eqb (length starts) k)) 4 0 0
-
--- 5: a lent buffer is shorter than needed.
-unfoldable pub roomJudged : Bool → Answer (Unit {0})
-roomJudged short = refuseIf short 5 0 0
 
 -- Whether the room for a plan is too short: m bytes for the ranks, k times n numbers for the orders.
 unfoldable pub planShort : ℕ → ℕ → List ℕ → (ranks orders : ℕ) → Bool

@@ -7,28 +7,16 @@ use kinds::Refusal;
 use kinds::Round;
 use kinds::first_refusal;
 use kinds::is_refused;
-use network::judge_length;
+use limits::judge_length;
+use limits::judge_level;
+use limits::judge_room;
+use limits::judge_stations;
 use network::judge_list;
-use network::judge_stations;
 ghost use mathlib.Core.Path.{_≡_};
 ghost use Prim.Native.Nat.{_<_, _≤_};
 ghost use lib.ListN.{length};
 ghost use Rattle.kinds.specs.Answers.{judgedAnswer};
-ghost use Rattle.request.specs.Judging.{levelJudged, startCountJudged, roomJudged, planShort, startJudged, startsJudged, sizesJudged, requestJudged};
-
-// Refusal 3: k is not 1 to 16.
-pub fn judge_level(level: Level) -> Judged
-    ensures answer { λ r. ⌜ judgedAnswer r ≡ levelJudged (level .0) ⌝ }
-{
-    let k = level.0;
-    if k < 1 {
-        return Judged::Refused(Refusal::LevelRange);
-    }
-    if 16 < k {
-        return Judged::Refused(Refusal::LevelRange);
-    }
-    Judged::Taken
-}
+ghost use Rattle.request.specs.Judging.{startCountJudged, planShort, startJudged, startsJudged, sizesJudged, requestJudged};
 
 // Refusal 4: the number of starting stations is not k.
 fn judge_start_count(level: Level, starts: &[u16]) -> Judged
@@ -38,16 +26,6 @@ fn judge_start_count(level: Level, starts: &[u16]) -> Judged
         return Judged::Taken;
     }
     Judged::Refused(Refusal::StartCount)
-}
-
-// Refusal 5: a lent buffer is shorter than needed.
-pub fn judge_room(short: bool) -> Judged
-    ensures answer { λ r. ⌜ judgedAnswer r ≡ roomJudged short ⌝ }
-{
-    if short {
-        return Judged::Refused(Refusal::Room);
-    }
-    Judged::Taken
 }
 
 // Whether the room for a plan, ranks and orders, is too short. Dividing instead of multiplying keeps any level and n from wrapping.

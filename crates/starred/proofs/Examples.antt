@@ -2,16 +2,18 @@
 -- Assumes nothing.
 use mathlib.Core.Path.{refl}
 use Rattle.laws.specs.Fold.{upTo, firstFrom}
-use Rattle.network.specs.Judging.{sameEnds, stationsJudged, lengthJudged, endsJudged, lineJudged, linesJudged, listJudged}
-use Rattle.request.specs.Judging.{levelJudged, startCountJudged, roomJudged, startJudged, startsJudged, sizesJudged, requestJudged, planShort}
+use Rattle.limits.specs.Limits.{stationsJudged, lengthJudged, levelJudged, roomJudged, weakLevelJudged}
+use Rattle.network.specs.Judging.{sameEnds, endsJudged, lineJudged, linesJudged, listJudged}
+use Rattle.request.specs.Judging.{startCountJudged, startJudged, startsJudged, sizesJudged, requestJudged, planShort}
 use Rattle.scan.specs.Rule.{takeTo, takeLine, scanStation, ready, fresh, nextStation, scanAs, scanNext, allScanned, oneRound}
 use Rattle.kept.specs.Kept.{keptCount, copyLine, keptLines}
 use Rattle.prune.specs.Pruning.{nextRound, allRounds, pruned, pruneAnswer}
 use Rattle.plans.specs.Checking.{inPlay, ofRank, linked, rankVerdict, ranksVerdict, entryVerdict, orderVerdict, earliest, hasParent, hasOther, parentVerdict, otherVerdict, stationVerdict, stationsVerdict, positionOf, addTree, treesOf, lineVerdict, linesVerdict, roundVerdict, roundsVerdict, orderOf, planVerdict, planJudged, checkAnswer}
-use Rattle.joined.specs.Pieces.{isAway, alone, merge, joinLine, piecesOf, onePiece}
+use Rattle.pieces.specs.Away.{isAway}
+use Rattle.pieces.specs.Pieces.{alone, merge, joinLine, piecesOf, onePiece}
 use Rattle.joined.specs.Asking.{awayJudged, allAwayJudged, askedJudged, joinedAnswer}
 use Rattle.unite.specs.Union.{addLine, united, listsJudged, unionJudged, unionShort, sizeAnswer, unionAnswer}
-use Rattle.weakness.specs.Standing.{lowestRemaining, lowestApart, without, withoutOnes, withoutSeconds, withoutTwos, weakSpot, weakLevelJudged, weakJudged, weakAnswer}
+use Rattle.weakness.specs.Standing.{lowestRemaining, lowestApart, without, withoutOnes, withoutSeconds, withoutTwos, weakSpot, weakJudged, weakAnswer}
 use Rattle.starred.specs.Examples.{Right, starred}
 
 pub starred-right : Right starred

@@ -4,7 +4,7 @@ use Prim.Native.Nat.{ℕ}
 use mathlib.Core.Path.{_≡_}
 use mathlib.Core.Bool.{true, false}
 use mathlib.Core.List.{List, [], _∷_}
-use Rattle.kinds.specs.Answers.{Answer, Answer.given, Answer.refused}
+use Rattle.kinds.specs.Answers.{Answer.given, Answer.refused}
 use Rattle.network.specs.Judging.{listJudged}
 use Rattle.kept.specs.Kept.{keptLines}
 use Rattle.prune.specs.Pruning.{rounds, pruned, pruneAnswer}

@@ -7,7 +7,7 @@ use forests::FaultKind;
 use forests::Verdict;
 use kinds::Level;
 ghost use mathlib.Core.Path.{_≡_};
-ghost use Rattle.kinds.specs.Answers.{Answer, Answer.given};
+ghost use Rattle.kinds.specs.Answers.{Answer.given};
 ghost use Rattle.forests.specs.Answers.{kindOf, faultPlace, verdictSaid};
 ghost use Rattle.plans.specs.Checking.{checkAnswer};
 ghost use Rattle.tapuhzel.specs.Codes.{numberSaid, placeSaid, listSaid, letterNumber, kindSaid, roundSaid, faultPlaceSaid};

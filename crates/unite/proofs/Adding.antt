@@ -41,7 +41,7 @@ pub copy-next : (lines room : List ℕ) (i : ℕ) → i < length lines → i < l
 copy-next lines room i h k =
     store-next (take i lines) room i (getD lines i 0) (length-take-le i lines (omega arith)) k ∙ rw (add-one i, take-suc lines i 0 h)
 
-module _ (pairs first second : List ℕ) (remembers : Remembers pairs first (length first / 2)) (proper : Proper (network 1024 second)) where
+module _ (pairs first second : List ℕ) (remembers : Remembers 1024 pairs first (length first / 2)) (proper : Proper (network 1024 second)) where
   -- a line is new to the set just where the first list lacks it
   new-lacks : (p : ℕ) → p < length second / 2 → isNew pairs second p ≡ not (stoodBefore first (length first / 2) (endOne second p) (endTwo second p))
   unfolding isNew

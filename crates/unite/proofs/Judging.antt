@@ -2,19 +2,18 @@
 -- Assumes nothing.
 use Prim.Native.Nat.{ℕ, _/_, _≤_}
 use mathlib.Core.Path.{_≡_, sym, ap, _∙_}
-use mathlib.Core.Bool.{Bool, false}
+use mathlib.Core.Bool.{false}
 use mathlib.Core.List.{List}
 use native.Mathlib.Omega.{arith}
 use borrow.Author.Tests.{ltb-false, le-ltb}
 use lib.Dec.{ltb}
 use lib.ListN.{length}
-use Rattle.kinds.specs.Answers.{Answer, Answer.given, taken, _andThen_, isRefused}
-use Rattle.kinds.proofs.Answers.{then-both, taken-is, passed, then-given}
+use Rattle.kinds.specs.Answers.{Answer.given, taken, _andThen_, isRefused}
+use Rattle.kinds.proofs.Answers.{then-both, passed, then-given}
 use Rattle.network.specs.Faults.{Sound}
-use Rattle.network.specs.Judging.{stationsJudged, lengthJudged, linesJudged, listJudged}
-use Rattle.network.proofs.Judging.{stations-good, length-good}
-use Rattle.network.proofs.Sound.{within-taken, lines-only, taken-sound, sound-taken}
-use Rattle.request.specs.Judging.{roomJudged}
+use Rattle.limits.specs.Limits.{stationsJudged, lengthJudged, roomJudged}
+use Rattle.network.specs.Judging.{linesJudged}
+use Rattle.network.proofs.Sound.{within-taken, lines-only, parts-sound, sound-taken}
 use Rattle.unite.specs.Union.{united, listsJudged, unionJudged, unionShort, sizeAnswer, unionAnswer}
 
 -- What is known of a union that is not refused.
@@ -24,14 +23,6 @@ pub record Unites (n : ℕ) (first second : List ℕ) (room : ℕ) : Type 0 wher
   pub few : length (united first second) ≤ 16384
   pub fits : length (united first second) ≤ room
 
--- Once n and a list's length are right, judging the list is judging its lines.
-pub sized-list : (list n : ℕ) (lines : List ℕ) → isRefused (stationsJudged n) ≡ false → isRefused (lengthJudged list lines) ≡ false
-    → listJudged list n lines ≡ linesJudged list n lines
-sized-list list n lines s l =
-    let (some, most) = stations-good n s in
-    let (even, few) = length-good list lines l in
-    lines-only list n lines (record { some = some; most = most; even = even; few = few })
-
 -- The two lists are sound just where they are not refused.
 module _ (n : ℕ) (first second : List ℕ) where
   pub lists-sound : isRefused (listsJudged n first second) ≡ false → Sound n first × Sound n second
@@ -40,10 +31,8 @@ module _ (n : ℕ) (first second : List ℕ) where
       let (s, e₁) = then-both (stationsJudged n) (lengthJudged 1 first andThen lengthJudged 2 second andThen linesJudged 1 n first andThen linesJudged 2 n second) e in
       let (l, e₂) = then-both (lengthJudged 1 first) (lengthJudged 2 second andThen linesJudged 1 n first andThen linesJudged 2 n second) e₁ in
       let (m, e₃) = then-both (lengthJudged 2 second) (linesJudged 1 n first andThen linesJudged 2 n second) e₂ in
-      let (a, b) = then-both (linesJudged 1 n first) (linesJudged 2 n second) e₃ in (
-        taken-sound 1 n first (sized-list 1 n first s l ∙ taken-is (linesJudged 1 n first) a),
-        taken-sound 2 n second (sized-list 2 n second s m ∙ taken-is (linesJudged 2 n second) b),
-      )
+      let (a, b) = then-both (linesJudged 1 n first) (linesJudged 2 n second) e₃ in
+      (parts-sound 1 n first s l a, parts-sound 2 n second s m b)
 
   pub sound-lists : Sound n first → Sound n second → listsJudged n first second ≡ taken
   unfolding listsJudged

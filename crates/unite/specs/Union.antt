@@ -8,8 +8,8 @@ use lib.Dec.{ltb}
 use Rattle.laws.specs.Fold.{pick, upTo}
 use Rattle.kinds.specs.Answers.{Answer, Answer.given, refuseIf, _andThen_}
 use Rattle.network.specs.Lines.{endOne, endTwo}
-use Rattle.network.specs.Judging.{stoodBefore, stationsJudged, lengthJudged, linesJudged}
-use Rattle.request.specs.Judging.{roomJudged}
+use Rattle.limits.specs.Limits.{stationsJudged, lengthJudged, roomJudged}
+use Rattle.network.specs.Judging.{stoodBefore, linesJudged}
 
 -- The line of the second list at place p, after those that stand, if the first list lacks it.
 unfoldable pub addLine : List ℕ → List ℕ → ℕ → List ℕ → List ℕ

@@ -4,9 +4,9 @@ use kinds::LineList;
 use kinds::Place;
 use kinds::Refusal;
 use kinds::first_refusal;
-use network::judge_length;
+use limits::judge_length;
+use limits::judge_stations;
 use network::judge_list;
-use network::judge_stations;
 use network::line_at;
 use network::pair_number;
 ghost use mathlib.Core.Path.{_≡_};
@@ -55,8 +55,8 @@ fn pair_of(lines: &[u16], place: Place) -> usize
 
 // The set of pairs remembers the line at a place, after those before it.
 fn remember_line(lines: &[u16], place: Place, pairs: &mut [u64])
-    requires { ⌜ Proper (network 1024 (now lines)) × (place .0 < length (now lines) / 2) × Remembers (now pairs) (now lines) (place .0) ⌝ }
-    ensures remembers { λ _. ⌜ Remembers (now (pairs .exit)) (now (lines .entry)) (place .0 + 1) ⌝ }
+    requires { ⌜ Proper (network 1024 (now lines)) × (place .0 < length (now lines) / 2) × Remembers 1024 (now pairs) (now lines) (place .0) ⌝ }
+    ensures remembers { λ _. ⌜ Remembers 1024 (now (pairs .exit)) (now (lines .entry)) (place .0 + 1) ⌝ }
 {
     let number = pair_of(lines, place);
     bits::put_in(pairs, number);
@@ -64,8 +64,8 @@ fn remember_line(lines: &[u16], place: Place, pairs: &mut [u64])
 
 // The set of pairs, which remembers no line yet, remembers every line of a list.
 fn remember_lines(lines: &[u16], pairs: &mut [u64])
-    requires { ⌜ (length (now lines) ≤ 16384) × Proper (network 1024 (now lines)) × Remembers (now pairs) (now lines) 0 ⌝ }
-    ensures remembers { λ _. ⌜ Remembers (now (pairs .exit)) (now (lines .entry)) (length (now (lines .entry)) / 2) ⌝ }
+    requires { ⌜ (length (now lines) ≤ 16384) × Proper (network 1024 (now lines)) × Remembers 1024 (now pairs) (now lines) 0 ⌝ }
+    ensures remembers { λ _. ⌜ Remembers 1024 (now (pairs .exit)) (now (lines .entry)) (length (now (lines .entry)) / 2) ⌝ }
 {
     let count = lines.len() / 2;
     for p in 0..count {
@@ -136,7 +136,7 @@ fn add_lines(lines: &[u16], pairs: &[u64], room: &mut [u16], stands: usize)
 
 // Unites two lists that are in order, with a set of pairs that remembers no line yet: 13; 5; else the union is written.
 fn unite_with(first: &[u16], second: &[u16], pairs: &mut [u64], room: &mut [u16]) -> United
-    requires { ⌜ (length (now first) ≤ 16384) × (length (now second) ≤ 16384) × Proper (network 1024 (now first)) × Proper (network 1024 (now second)) × Remembers (now pairs) (now first) 0 ⌝ }
+    requires { ⌜ (length (now first) ≤ 16384) × (length (now second) ≤ 16384) × Proper (network 1024 (now first)) × Proper (network 1024 (now second)) × Remembers 1024 (now pairs) (now first) 0 ⌝ }
     ensures answer { λ r. ⌜ unitedAnswer r ≡ sizeAnswer (now (first .entry)) (now (second .entry)) (length (now (room .entry))) ⌝ }
     ensures room { λ r. ⌜ now (room .exit) ≡ after (unitedAnswer r) (united (now (first .entry)) (now (second .entry))) (now (room .entry)) ⌝ }
 {

@@ -12,9 +12,10 @@ use lib.Dec.{leb}
 use Rattle.laws.specs.Fold.{pick}
 use Rattle.laws.specs.Count.{count}
 use Rattle.network.specs.Faults.{Sound}
-use Rattle.joined.specs.Joined.{Remains}
-use Rattle.joined.specs.Pieces.{isAway, onePiece}
-use Rattle.joined.proofs.Chains.{one-piece-joined, joined-one-piece}
+use Rattle.pieces.specs.Joined.{Remains}
+use Rattle.pieces.specs.Away.{isAway}
+use Rattle.pieces.specs.Pieces.{onePiece}
+use Rattle.pieces.proofs.Chains.{one-piece-joined, joined-one-piece}
 use Rattle.certificate.specs.Alike.{Alike}
 use Rattle.weakness.specs.Standing.{Standing, Standing.stands, isWeak, lowestRemaining, lowestApart, without, withoutOnes, withoutSeconds, withoutTwos, weakSpot}
 use Rattle.weakness.proofs.Remaining.{lowest-remains, none-few, one-few, two-few}

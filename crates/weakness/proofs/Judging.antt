@@ -3,18 +3,16 @@
 
 use Prim.Native.Nat.{ℕ, _≤_}
 use mathlib.Core.Path.{_≡_, sym, ap, _∙_}
-use mathlib.Core.Bool.{_||_}
 use mathlib.Core.List.{List}
-use borrow.Author.Tests.{ltb-false, le-ltb}
-use lib.Dec.{ltb}
+use borrow.Author.Tests.{le-ltb}
 use Rattle.kinds.specs.Answers.{taken, _andThen_, isRefused}
-use Rattle.kinds.proofs.Answers.{then-both, taken-is, passed}
-use Rattle.network.specs.Judging.{stationsJudged, lengthJudged, linesJudged}
+use Rattle.kinds.proofs.Answers.{then-both}
+use Rattle.limits.specs.Limits.{stationsJudged, lengthJudged, weakLevelJudged}
+use Rattle.network.specs.Judging.{linesJudged}
 use Rattle.network.specs.Faults.{Sound}
-use Rattle.network.proofs.Sound.{within-taken, lines-only, taken-sound, sound-taken}
-use Rattle.plans.proofs.Judging.{within-good}
-use Rattle.weakness.specs.Standing.{weakLevelJudged, weakJudged}
-use Rattle.laws.proofs.Truth.{neither}
+use Rattle.limits.proofs.Limits.{weak-level-good}
+use Rattle.network.proofs.Sound.{within-taken, lines-only, parts-sound, sound-taken}
+use Rattle.weakness.specs.Standing.{weakJudged}
 
 pub record Searchable (n k : ℕ) (lines : List ℕ) : Type 0 where
   pub sound : Sound n lines
@@ -24,17 +22,15 @@ pub record Searchable (n k : ℕ) (lines : List ℕ) : Type 0 where
 module _ (n k : ℕ) (lines : List ℕ) where
   -- THEOREM. What is taken can be searched.
   pub weak-good : weakJudged n k lines ≡ taken → Searchable n k lines
-  unfolding weakJudged weakLevelJudged
+  unfolding weakJudged
   weak-good e =
       let (s, e₁) = then-both (stationsJudged n) (lengthJudged 0 lines andThen weakLevelJudged k andThen linesJudged 0 n lines) (ap isRefused e) in
       let (l, e₂) = then-both (lengthJudged 0 lines) (weakLevelJudged k andThen linesJudged 0 n lines) e₁ in
       let (v, e₃) = then-both (weakLevelJudged k) (linesJudged 0 n lines) e₂ in
-      let w = within-good 0 n lines s l in
-      let (x, y) = neither (ltb k 1) (ltb 3 k) (passed (ltb k 1 || ltb 3 k) 12 0 0 v) in
       record {
-        sound = taken-sound 0 n lines (lines-only 0 n lines w ∙ taken-is (linesJudged 0 n lines) e₃);
-        some = ltb-false k 1 x;
-        most = ltb-false 3 k y;
+        sound = parts-sound 0 n lines s l e₃;
+        some = weak-level-good k v .0;
+        most = weak-level-good k v .1;
       }
 
   -- THEOREM. What can be searched is taken.

@@ -13,9 +13,9 @@ use lib.Seq.{getD-set-same, getD-set-other}
 use Rattle.laws.specs.Fold.{pick, firstFrom, lowest}
 use Rattle.laws.proofs.Fold.{first-last, lowest-none, lowest-same}
 use Rattle.network.specs.Lines.{network, Proper}
-use Rattle.joined.specs.Marks.{isGone, Unmarked, Gone}
-use Rattle.joined.specs.Pieces.{isAway, piecesOf, onePiece}
-use Rattle.joined.proofs.Pieces.{pieces-alike}
+use Rattle.pieces.specs.Away.{isGone, Unmarked, Gone, isAway}
+use Rattle.pieces.specs.Pieces.{piecesOf, onePiece}
+use Rattle.pieces.proofs.Pieces.{pieces-alike}
 use Rattle.weakness.specs.Standing.{Standing.stands, Standing.weak, lowestRemaining, lowestApart, without}
 use Rattle.weakness.specs.Looking.{isApart}
 

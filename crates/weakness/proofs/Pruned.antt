@@ -16,7 +16,8 @@ use Rattle.laws.proofs.Count.{count-most}
 use Rattle.kinds.specs.Answers.{Answer, Answer.given}
 use Rattle.network.specs.Faults.{Sound}
 use Rattle.network.proofs.Sound.{within-taken}
-use Rattle.request.specs.Judging.{planShort, roomJudged}
+use Rattle.limits.specs.Limits.{roomJudged}
+use Rattle.request.specs.Judging.{planShort}
 use Rattle.request.specs.Requests.{Request}
 use Rattle.request.proofs.Judging.{good-request}
 use Rattle.kept.specs.Kept.{isKept, keptCount, keptOf, keptLines, copyAnswer, after}

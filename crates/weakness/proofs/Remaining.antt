@@ -18,8 +18,8 @@ use Rattle.laws.specs.Fold.{firstFrom, lowest}
 use Rattle.laws.specs.Count.{count, bit}
 use Rattle.laws.proofs.Count.{total-same, count-none, count-equal, count-or}
 use Rattle.laws.proofs.Fold.{FoundAt, FoundNone, first-cases}
-use Rattle.joined.specs.Joined.{Remains}
-use Rattle.joined.specs.Pieces.{isAway}
+use Rattle.pieces.specs.Joined.{Remains}
+use Rattle.pieces.specs.Away.{isAway}
 use Rattle.weakness.specs.Standing.{lowestRemaining}
 use Rattle.weakness.proofs.Looking.{is-one, is-two}
 

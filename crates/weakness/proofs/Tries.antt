@@ -13,7 +13,7 @@ use native.Mathlib.Omega.{arith}
 use borrow.Author.Tests.{le-leb, lt-leb}
 use lib.ListN.{length, getD}
 use Rattle.laws.proofs.Fold.{FoundAt, FoundNone, first-cases}
-use Rattle.joined.specs.Rising.{Rising}
+use Rattle.pieces.specs.Away.{Rising}
 use Rattle.weakness.specs.Standing.{Standing.stands, isWeak, without, withoutOnes, withoutSeconds, withoutTwos, weakSpot}
 use Rattle.weakness.specs.Parting.{Tried, Earlier, Earlier.fewer, Earlier.first, Earlier.second}
 use Rattle.weakness.proofs.Standing.{else-weak, else-next}

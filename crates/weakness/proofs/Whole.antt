@@ -18,11 +18,11 @@ use Rattle.laws.specs.Count.{count, bit}
 use Rattle.laws.proofs.Fold.{FoundAt, FoundNone, first-cases}
 use Rattle.network.specs.Chains.{Chain, Chain.here, Chain.step}
 use Rattle.network.specs.Faults.{Sound}
-use Rattle.joined.specs.Joined.{Remains, Joined}
-use Rattle.joined.specs.Pieces.{isAway, onePiece}
-use Rattle.joined.specs.Rising.{Rising}
-use Rattle.joined.proofs.Asking.{away-stands}
-use Rattle.joined.proofs.Chains.{joined-back, joined-then, one-piece-joined, joined-one-piece}
+use Rattle.pieces.specs.Joined.{Remains, Joined}
+use Rattle.pieces.specs.Away.{isAway, Rising}
+use Rattle.pieces.specs.Pieces.{onePiece}
+use Rattle.pieces.proofs.Away.{away-stands}
+use Rattle.pieces.proofs.Chains.{joined-back, joined-then, one-piece-joined, joined-one-piece}
 use Rattle.weakness.specs.Standing.{Standing, Standing.stands, Standing.weak, isWeak, lowestRemaining, lowestApart, without, weakSpot}
 use Rattle.weakness.specs.Parting.{Whole, Parts, IsWeakSpot}
 use Rattle.weakness.proofs.Looking.{is-one, is-two}

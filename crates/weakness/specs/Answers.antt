@@ -6,7 +6,6 @@ use Rattle.kinds.specs.Answers.{Answer, Answer.given, refusalAnswer}
 use Rattle.weakness.specs.Standing.{Standing, Standing.stands, Standing.weak}
 use Rattle.weakness.specs.declared.Spot.{Spot}
 use Rattle.weakness.specs.declared.Spot.the-variants.{Empty, One, Two}
-use Rattle.weakness.specs.declared.WeakSpot.{WeakSpot}
 use Rattle.weakness.specs.declared.Found.{Found}
 use Rattle.weakness.specs.declared.Found.the-variants.{Stands, Weak}
 use Rattle.weakness.specs.declared.Searched.{Searched}

@@ -5,7 +5,7 @@ use mathlib.Core.Bool.{Bool, not, _&&_}
 use mathlib.Core.List.{List}
 use lib.ListN.{getD}
 use lib.Dec.{eqb}
-use Rattle.joined.specs.Marks.{isGone}
+use Rattle.pieces.specs.Away.{isGone}
 use Rattle.weakness.specs.Standing.{Standing, Standing.stands, Standing.weak}
 use Rattle.weakness.specs.declared.Parted.{Parted}
 use Rattle.weakness.specs.declared.Parted.the-variants.{Whole, Between}

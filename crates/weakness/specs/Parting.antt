@@ -5,9 +5,8 @@ use mathlib.Core.Path.{_≡_}
 use mathlib.Core.Bool.{Bool}
 use mathlib.Core.List.{List}
 use lib.ListN.{length, getD}
-use Rattle.joined.specs.Joined.{Remains, Joined}
-use Rattle.joined.specs.Pieces.{isAway}
-use Rattle.joined.specs.Rising.{Rising}
+use Rattle.pieces.specs.Joined.{Remains, Joined}
+use Rattle.pieces.specs.Away.{isAway, Rising}
 
 -- Any two remaining stations are joined.
 pub record Whole (n : ℕ) (lines : List ℕ) (away : ℕ → Bool) : Type 0 where

@@ -1,13 +1,15 @@
 -- Whether a network stands at a level, and its weak spot otherwise, over the whole list.
 -- Assumes nothing.
 use Prim.Native.Nat.{ℕ, _+_, _-_}
-use mathlib.Core.Bool.{Bool, true, false, not, _&&_, _||_}
+use mathlib.Core.Bool.{Bool, true, false, not, _&&_}
 use mathlib.Core.List.{List, [], _∷_}
 use lib.Dec.{ltb, leb}
 use Rattle.laws.specs.Fold.{pick, firstFrom, lowest}
-use Rattle.kinds.specs.Answers.{Answer, Answer.given, refuseIf, _andThen_}
-use Rattle.network.specs.Judging.{stationsJudged, lengthJudged, linesJudged}
-use Rattle.joined.specs.Pieces.{isAway, onePiece}
+use Rattle.kinds.specs.Answers.{Answer, Answer.given, _andThen_}
+use Rattle.limits.specs.Limits.{stationsJudged, lengthJudged, weakLevelJudged}
+use Rattle.network.specs.Judging.{linesJudged}
+use Rattle.pieces.specs.Away.{isAway}
+use Rattle.pieces.specs.Pieces.{onePiece}
 
 infixr 30 _orElse_
 -- The network stands, or a weak spot parts station a from station b.
@@ -57,10 +59,6 @@ weakSpot n k lines =
     without n lines []
     orElse pick (leb 2 k) (withoutOnes n lines) stands
     orElse pick (leb 3 k) (withoutTwos n lines) stands
-
--- 12: the weak-spot level is not 1 to 3.
-unfoldable pub weakLevelJudged : ℕ → Answer (Unit {0})
-weakLevelJudged k = refuseIf (ltb k 1 || ltb 3 k) 12 0 0
 
 -- The refusals: 1, 2, 12, lines.
 unfoldable pub weakJudged : ℕ → ℕ → List ℕ → Answer (Unit {0})

@@ -1,5 +1,4 @@
 // Weak spots: the fewest stations that, taken away, leave two others not joined.
-use joined::find_pieces;
 use kept::copy_kept;
 use kept::count_kept;
 use kinds::Judged;
@@ -8,9 +7,11 @@ use kinds::LineList;
 use kinds::Refusal;
 use kinds::Station;
 use kinds::first_refusal;
-use network::judge_length;
+use limits::judge_length;
+use limits::judge_stations;
+use limits::judge_weak_level;
 use network::judge_list;
-use network::judge_stations;
+use pieces::find_pieces;
 use prune::prune;
 ghost use mathlib.Core.Path.{_≡_};
 ghost use mathlib.Core.List.{List, [], _∷_};
@@ -19,9 +20,9 @@ ghost use lib.ListN.{length};
 ghost use Rattle.laws.specs.Fold.{lowest};
 ghost use Rattle.kinds.specs.Answers.{judgedAnswer};
 ghost use Rattle.network.specs.Faults.{Sound};
-ghost use Rattle.joined.specs.Marks.{isGone, Unmarked, Gone};
+ghost use Rattle.pieces.specs.Away.{isGone, Unmarked, Gone};
 ghost use Rattle.certificate.specs.Starts.{StartsIn};
-ghost use Rattle.weakness.specs.Standing.{isWeak, lowestRemaining, without, withoutOnes, withoutSeconds, withoutTwos, weakSpot, weakLevelJudged, weakJudged, weakAnswer};
+ghost use Rattle.weakness.specs.Standing.{isWeak, lowestRemaining, without, withoutOnes, withoutSeconds, withoutTwos, weakSpot, weakJudged, weakAnswer};
 ghost use Rattle.weakness.specs.Looking.{partedStanding, isApart};
 ghost use Rattle.weakness.specs.Answers.{spotStations, foundStanding, searchedAnswer};
 
@@ -301,20 +302,6 @@ fn search_network(n: usize, level: Level, lines: &[u16]) -> Found
         &mut orders,
         &mut kept,
     )
-}
-
-// Refusal 12: the level is not 1 to 3.
-fn judge_weak_level(level: Level) -> Judged
-    ensures answer { λ r. ⌜ judgedAnswer r ≡ weakLevelJudged (level .0) ⌝ }
-{
-    let k = level.0;
-    if k < 1 {
-        return Judged::Refused(Refusal::WeakLevel);
-    }
-    if 3 < k {
-        return Judged::Refused(Refusal::WeakLevel);
-    }
-    Judged::Taken
 }
 
 // The judge of a search for a weak spot: 1, 2, 12, lines.

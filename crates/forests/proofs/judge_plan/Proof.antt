@@ -3,8 +3,8 @@
 use mathlib.Core.Path.{_∙_, ap}
 use Rattle.kinds.specs.Answers.{_andThen_}
 use Rattle.kinds.proofs.Answers.{then-said, then-again, then-group}
-use Rattle.network.specs.Judging.{stationsJudged, lengthJudged, linesJudged, listJudged}
-use Rattle.request.specs.Judging.{levelJudged, roomJudged}
+use Rattle.limits.specs.Limits.{stationsJudged, lengthJudged, levelJudged, roomJudged}
+use Rattle.network.specs.Judging.{linesJudged, listJudged}
 use Rattle.plans.specs.Checking.{planJudged}
 use borrow.Author.Needs.{needs}
 use Rattle.forests.proofs.judge_plan.Statement.{statement}

@@ -1,6 +1,6 @@
 -- `joined::is_one_piece` meets its contract. The pieces found by the marks are those of the list that the marks are of. Assumes nothing.
 use borrow.Author.Needs.{needs}
-use Rattle.joined.proofs.Pieces.{same-piece}
+use Rattle.pieces.proofs.Pieces.{same-piece}
 use Rattle.joined.proofs.is_one_piece.Statement.{statement}
 use Rattle.joined.proofs.is_one_piece.Tie as tie
 

@@ -1,7 +1,7 @@
 -- `joined::joined` meets its contract. Fresh arrays have the room that is asked, and no mark is set. Assumes nothing.
 use mathlib.Core.Path.{refl}
 use borrow.Author.Needs.{needs}
-use Rattle.joined.proofs.Asking.{unmarked-array}
+use Rattle.pieces.proofs.Away.{unmarked-array}
 use Rattle.joined.proofs.joined.Statement.{statement}
 use Rattle.joined.proofs.joined.Tie as tie
 

@@ -5,7 +5,8 @@ use native.Mathlib.Omega.{arith}
 use borrow.Author.Needs.{needs}
 use Rattle.kinds.specs.Answers.{Answer.given, taken, refusalAnswer, _andThen_}
 use Rattle.joined.specs.Asking.{askedJudged}
-use Rattle.joined.proofs.Asking.{then-refusal, then-taken, both-remain}
+use Rattle.kinds.proofs.Answers.{then-refusal, then-taken}
+use Rattle.joined.proofs.Asking.{both-remain}
 use Rattle.joined.proofs.joined_among.Statement.{statement}
 use Rattle.joined.proofs.joined_among.Tie as tie
 

@@ -7,7 +7,9 @@ use lib.Seq.{length-take-le}
 use Rattle.kinds.specs.Answers.{taken, refusalAnswer, _andThen_}
 use Rattle.network.specs.Judging.{listJudged}
 use Rattle.joined.specs.Asking.{allAwayJudged, joinedAnswer}
-use Rattle.joined.proofs.Asking.{then-refusal, then-taken, network-good, unmarked-part}
+use Rattle.kinds.proofs.Answers.{then-refusal, then-taken}
+use Rattle.pieces.proofs.Away.{unmarked-part}
+use Rattle.joined.proofs.Asking.{network-good}
 use Rattle.joined.proofs.joined_within.Statement.{statement}
 use Rattle.joined.proofs.joined_within.Tie as tie
 

@@ -7,8 +7,7 @@ use borrow.Author.Needs.{needs}
 use lib.ListN.{length, getD, length-set}
 use lib.Dec.{eqb}
 use Rattle.laws.specs.Fold.{firstFrom, anyFrom}
-use Rattle.joined.specs.Marks.{isGone}
-use Rattle.joined.specs.Pieces.{isAway}
+use Rattle.pieces.specs.Away.{isGone, isAway}
 use Rattle.joined.proofs.Asking.{mark-next}
 use Rattle.joined.proofs.take_away.Statement.{statement}
 use Rattle.joined.proofs.take_away.Tie as tie

@@ -8,9 +8,8 @@ use borrow.Author.Needs.{needs}
 use lib.ListN.{length}
 use lib.Dec.{ltb}
 use Rattle.kinds.specs.Answers.{Answer.given, taken, refusalAnswer}
-use Rattle.network.specs.Judging.{lengthJudged}
-use Rattle.network.proofs.Judging.{length-good}
-use Rattle.request.specs.Judging.{roomJudged}
+use Rattle.limits.specs.Limits.{lengthJudged, roomJudged}
+use Rattle.limits.proofs.Limits.{length-good}
 use Rattle.kept.specs.Kept.{keptOf, copyAnswer, after}
 use Rattle.kept.proofs.copy_kept.Statement.{statement}
 use Rattle.kept.proofs.copy_kept.Tie as tie

@@ -19,7 +19,7 @@ abbrev Inv-loop : tie.InvT-loop
 Inv-loop list n lines pairs₀ count p₀ pairs p =
     (p ≤ count)
     × (length pairs ≡ length pairs₀)
-    × Remembers pairs lines p
+    × Remembers n pairs lines p
     × (linesJudged (listNumber list) n lines ≡ firstFrom isRefused (lineJudged (listNumber list) n lines) taken p (count - p))
 
 abbrev μ-loop : tie.MeasureT-loop

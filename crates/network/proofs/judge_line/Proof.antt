@@ -59,7 +59,7 @@ returns-2 c =
     let line = c .before .before .before .before .before .before .before .line-at in
     let e : isRefused (endsJudged (listNumber (a .list)) (a .n) (line .result .one .0) (line .result .two .0) (a .place .0)) ≡ false = cc in
     let good = ends-good (listNumber (a .list)) (a .n) (line .result .one .0) (line .result .two .0) (a .place .0) e in
-    let known = s .pre .1 .exactly (line .result .one .0) (line .result .two .0) (omega (arith, good .one-in, s .pre .0)) (omega (arith, good .two-in, s .pre .0)) (good .apart) in
+    let known = s .pre .1 .exactly (line .result .one .0) (line .result .two .0) (good .one-in) (good .two-in) (good .apart) in
     let stood : stoodBefore (a .lines .now) (a .place .0) (line .result .one .0) (line .result .two .0) ≡ true = cc in (
       line-stood (listNumber (a .list)) (a .n) (a .lines .now) (a .place .0) (line .result .one .0) (line .result .two .0) (line .ensures .0) (line .ensures .1) e stood,
       λ h. absurd (true≢false h),
@@ -78,13 +78,12 @@ returns-3 c =
     let line = c .before .before .before .before .before .before .before .before .before .before .before .line-at in
     let e : isRefused (endsJudged (listNumber (a .list)) (a .n) (line .result .one .0) (line .result .two .0) (a .place .0)) ≡ false = cc in
     let good = ends-good (listNumber (a .list)) (a .n) (line .result .one .0) (line .result .two .0) (a .place .0) e in
-    let known = s .pre .1 .exactly (line .result .one .0) (line .result .two .0) (omega (arith, good .one-in, s .pre .0)) (omega (arith, good .two-in, s .pre .0)) (good .apart) in
+    let known = s .pre .1 .exactly (line .result .one .0) (line .result .two .0) (good .one-in) (good .two-in) (good .apart) in
     let new : stoodBefore (a .lines .now) (a .place .0) (line .result .one .0) (line .result .two .0) ≡ false = cc in
     let put : c .before .before .put-in .last .0 ≡ putIn (a .pairs .now) (pairNumber (endOne (a .lines .now) (a .place .0)) (endTwo (a .lines .now) (a .place .0))) = cc in
     let good′ : EndsGood (a .n) (endOne (a .lines .now) (a .place .0)) (endTwo (a .lines .now) (a .place .0)) = rw (line .ensures .0, line .ensures .1) at good in (
       line-taken (listNumber (a .list)) (a .n) (a .lines .now) (a .place .0) (line .result .one .0) (line .result .two .0) (line .ensures .0) (line .ensures .1) e new,
-      λ h. rw put (remember-more (a .pairs .now) (a .lines .now) (a .place .0) (s .pre .1)
-          (omega (arith, good′ .one-in, s .pre .0)) (omega (arith, good′ .two-in, s .pre .0)) (good′ .apart)),
+      λ h. rw put (remember-more (a .n) (a .pairs .now) (a .lines .now) (a .place .0) (s .pre .1) (good′ .one-in) (good′ .two-in) (good′ .apart)),
     )
 
 pub judge-line-spec : {M : Type 1} → statement M

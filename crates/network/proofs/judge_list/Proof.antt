@@ -5,8 +5,9 @@ use borrow.Author.Needs.{needs}
 use Rattle.kinds.specs.Answers.{isRefused, _andThen_}
 use Rattle.kinds.specs.Refusals.{listNumber}
 use Rattle.kinds.proofs.Answers.{then-next, then-refused, then-both, then-group, then-said}
-use Rattle.network.specs.Judging.{stationsJudged, lengthJudged, linesJudged, listJudged}
-use Rattle.network.proofs.Judging.{stations-good, length-good}
+use Rattle.limits.specs.Limits.{stationsJudged, lengthJudged}
+use Rattle.network.specs.Judging.{linesJudged, listJudged}
+use Rattle.limits.proofs.Limits.{stations-good, length-good}
 use Rattle.network.proofs.judge_list.Statement.{statement}
 use Rattle.network.proofs.judge_list.Tie as tie
 

@@ -1,10 +1,10 @@
 -- `unite::judge_lists` meets its contract. The judges are tried in the order of the definition; what a list's own judge tries again changes nothing.
 -- Assumes nothing.
 use mathlib.Core.Path.{_≡_, refl, _∙_}
-use Prim.Native.Nat.{ℕ}
 use Rattle.kinds.specs.Answers.{Answer, Answer.given, Answer.refused, _andThen_}
 use Rattle.kinds.proofs.Answers.{then-said}
-use Rattle.network.specs.Judging.{stationsJudged, lengthJudged, linesJudged, listJudged}
+use Rattle.limits.specs.Limits.{stationsJudged, lengthJudged}
+use Rattle.network.specs.Judging.{linesJudged, listJudged}
 use Rattle.unite.specs.Union.{listsJudged}
 use borrow.Author.Needs.{needs}
 use Rattle.unite.proofs.judge_lists.Statement.{statement}

@@ -26,7 +26,7 @@ returns c =
     let p = a .place .0 in
     let proper = pre .0 in
     let put : c .before .before .put-in .last .0 ≡ putIn (a .pairs .now) (pairNumber (endOne lines p) (endTwo lines p)) = cc in
-    rw put (remember-more (a .pairs .now) lines p (pre .2) (proper .one-in p (pre .1)) (proper .two-in p (pre .1)) (proper .apart p (pre .1)))
+    rw put (remember-more 1024 (a .pairs .now) lines p (pre .2) (proper .one-in p (pre .1)) (proper .two-in p (pre .1)) (proper .apart p (pre .1)))
 
 pub remember-line-spec : {M : Type 1} → statement M
 remember-line-spec = tie.close (tie.spec pair-of-requires put-in-requires same-length returns)

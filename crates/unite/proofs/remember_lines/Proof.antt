@@ -10,7 +10,7 @@ use Rattle.unite.proofs.remember_lines.Statement.{statement}
 use Rattle.unite.proofs.remember_lines.Tie as tie
 
 abbrev Inv-loop : tie.InvT-loop
-Inv-loop lines pairs₀ count p₀ pairs p = (p ≤ count) × (length pairs ≡ length pairs₀) × Remembers pairs lines p
+Inv-loop lines pairs₀ count p₀ pairs p = (p ≤ count) × (length pairs ≡ length pairs₀) × Remembers 1024 pairs lines p
 
 abbrev μ-loop : tie.MeasureT-loop
 μ-loop lines pairs₀ count p₀ pairs p = count - p

@@ -1,4 +1,5 @@
 -- `unite::unite_lists` meets its contract. A set of no bits remembers no line. Assumes nothing.
+use native.Mathlib.Omega.{arith}
 use borrow.Author.Needs.{needs}
 use Rattle.network.proofs.Pairs.{remember-none}
 use Rattle.unite.proofs.unite_lists.Statement.{statement}
@@ -10,7 +11,7 @@ slice-aggregate-unite-with c = search needs
 unite-with-requires : tie.Need-unite-with-requires
 unite-with-requires c κs =
     let pre = c .before .before .before .before .before .pre in
-    (pre .0, pre .1, pre .2, pre .3, remember-none (c .before .before .before .before .before .args .first .now))
+    (pre .0, pre .1, pre .2, pre .3, remember-none 1024 8184 1024 (c .before .before .before .before .before .args .first .now) (omega arith) (omega arith))
 
 same-length : tie.Need-same-length
 same-length c = search needs

@@ -8,7 +8,7 @@ use borrow.Author.Needs.{needs}
 use lib.ListN.{length}
 use Rattle.laws.proofs.Count.{count-most}
 use Rattle.kinds.specs.Answers.{Answer.given}
-use Rattle.request.specs.Judging.{roomJudged}
+use Rattle.limits.specs.Limits.{roomJudged}
 use Rattle.kept.specs.Kept.{after}
 use Rattle.unite.specs.Adding.{isNew}
 use Rattle.unite.specs.Union.{united, unionJudged, unionShort, sizeAnswer}

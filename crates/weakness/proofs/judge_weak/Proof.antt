@@ -2,8 +2,9 @@
 -- Assumes nothing.
 use mathlib.Core.Path.{_∙_}
 use Rattle.kinds.proofs.Answers.{then-said, then-again}
-use Rattle.network.specs.Judging.{stationsJudged, lengthJudged, linesJudged, listJudged}
-use Rattle.weakness.specs.Standing.{weakLevelJudged, weakJudged}
+use Rattle.limits.specs.Limits.{stationsJudged, lengthJudged, weakLevelJudged}
+use Rattle.network.specs.Judging.{linesJudged, listJudged}
+use Rattle.weakness.specs.Standing.{weakJudged}
 use borrow.Author.Needs.{needs}
 use Rattle.weakness.proofs.judge_weak.Statement.{statement}
 use Rattle.weakness.proofs.judge_weak.Tie as tie

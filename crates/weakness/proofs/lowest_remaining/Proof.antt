@@ -1,7 +1,7 @@
 -- `weakness::lowest_remaining` meets its contract. The loop's invariant: the lowest station that remains from a on is the lowest of all.
 -- The measure is n - a. Assumes nothing.
 use Rattle.weakness.specs.Standing.{lowestRemaining}
-use Rattle.joined.specs.Marks.{isGone}
+use Rattle.pieces.specs.Away.{isGone}
 use Rattle.laws.proofs.Fold.{first-start, first-next, first-here, first-none}
 use Rattle.laws.specs.Fold.{firstFrom}
 use mathlib.Core.Path.{_≡_, sym, _∙_}

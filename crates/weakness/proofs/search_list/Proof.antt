@@ -1,6 +1,6 @@
 -- `weakness::search_list` meets its contract. The front of each work array is a table of n entries, and no mark is set. Assumes nothing.
 use lib.ListN.{replicate}
-use Rattle.joined.proofs.Asking.{unmarked-part, unmarked-array}
+use Rattle.pieces.proofs.Away.{unmarked-part, unmarked-array}
 use lib.Seq.{length-take-le}
 use mathlib.Core.Path.{sym}
 use mathlib.Core.Bool.{false}

@@ -1,7 +1,7 @@
 -- `weakness::try_seconds` meets its contract. The loop's invariant: what is left to try from w on is the answer, and no mark is set. The
 -- measure is n - w. Assumes nothing.
 use Rattle.weakness.specs.Standing.{Standing, Standing.stands, isWeak, without, withoutSeconds}
-use Rattle.joined.specs.Marks.{Unmarked}
+use Rattle.pieces.specs.Away.{Unmarked}
 use Rattle.laws.proofs.Fold.{first-next, first-here, first-none}
 use Rattle.laws.specs.Fold.{firstFrom}
 use lib.ListN.{length}

@@ -1,0 +1,73 @@
+// The refusals that look at sizes alone: of the stations, a line list, a level and the room in lent buffers.
+use kinds::Judged;
+use kinds::Level;
+use kinds::LineList;
+use kinds::Refusal;
+ghost use mathlib.Core.Path.{_≡_};
+ghost use Rattle.kinds.specs.Answers.{judgedAnswer};
+ghost use Rattle.kinds.specs.Refusals.{listNumber};
+ghost use Rattle.limits.specs.Limits.{stationsJudged, lengthJudged, levelJudged, roomJudged, weakLevelJudged};
+
+// Refusal 1: n is not 1 to 1,024.
+pub fn judge_stations(n: usize) -> Judged
+    ensures answer { λ r. ⌜ judgedAnswer r ≡ stationsJudged n ⌝ }
+{
+    if n < 1 {
+        return Judged::Refused(Refusal::StationCount);
+    }
+    if 1024 < n {
+        return Judged::Refused(Refusal::StationCount);
+    }
+    Judged::Taken
+}
+
+// Refusal 2: the line list has an odd length or over 16,384 numbers.
+pub fn judge_length(list: LineList, lines: &[u16]) -> Judged
+    ensures answer { λ r. ⌜ judgedAnswer r ≡ lengthJudged (listNumber list) (now (lines .entry)) ⌝ }
+{
+    if lines.len() % 2 == 1 {
+        return Judged::Refused(Refusal::LineCount(list));
+    }
+    if 16384 < lines.len() {
+        return Judged::Refused(Refusal::LineCount(list));
+    }
+    Judged::Taken
+}
+
+// Refusal 3: k is not 1 to 16.
+pub fn judge_level(level: Level) -> Judged
+    ensures answer { λ r. ⌜ judgedAnswer r ≡ levelJudged (level .0) ⌝ }
+{
+    let k = level.0;
+    if k < 1 {
+        return Judged::Refused(Refusal::LevelRange);
+    }
+    if 16 < k {
+        return Judged::Refused(Refusal::LevelRange);
+    }
+    Judged::Taken
+}
+
+// Refusal 5: a lent buffer is shorter than needed.
+pub fn judge_room(short: bool) -> Judged
+    ensures answer { λ r. ⌜ judgedAnswer r ≡ roomJudged short ⌝ }
+{
+    if short {
+        return Judged::Refused(Refusal::Room);
+    }
+    Judged::Taken
+}
+
+// Refusal 12: the weak-spot level is not 1 to 3.
+pub fn judge_weak_level(level: Level) -> Judged
+    ensures answer { λ r. ⌜ judgedAnswer r ≡ weakLevelJudged (level .0) ⌝ }
+{
+    let k = level.0;
+    if k < 1 {
+        return Judged::Refused(Refusal::WeakLevel);
+    }
+    if 3 < k {
+        return Judged::Refused(Refusal::WeakLevel);
+    }
+    Judged::Taken
+}

@@ -1,0 +1,4 @@
+pub mod Away
+pub mod Tables
+pub mod Pieces
+pub mod Chains
