@@ -1,35 +1,11 @@
 -- What the check says, in the document's letters and numbers.
 -- Assumes nothing.
-use Prim.Native.Nat.{ℕ}
 use Rattle.kinds.specs.Answers.{Answer, Answer.given, refusalAnswer}
-use Rattle.plans.specs.Verdicts.{Kind, Kind.A, Kind.B, Kind.C, Kind.D, Kind.E, Verdict as Said, Verdict.accepted, Verdict.faulty}
-use Rattle.forests.specs.declared.FaultKind.{FaultKind}
-use Rattle.forests.specs.declared.FaultKind.the-variants.{RankAbove, NotEachOnce, ParentLacking, OtherParent, TreesApart}
-use Rattle.forests.specs.declared.Verdict.{Verdict}
-use Rattle.forests.specs.declared.Verdict.the-variants.{Accepted, Faulty}
+use Rattle.plans.specs.Verdicts.{Verdict}
+use Rattle.rounds.specs.Answers.{verdictSaid}
 use Rattle.forests.specs.declared.Checked.{Checked}
 use Rattle.forests.specs.declared.Checked.the-variants.{Found, Refused}
 
--- The table's letter.
-abbrev pub kindOf : FaultKind → Kind
-kindOf (RankAbove place) = A
-kindOf (NotEachOnce position) = B
-kindOf (ParentLacking station) = C
-kindOf (OtherParent station) = D
-kindOf (TreesApart place) = E
-
--- Its own place: a line's place, a position or a station.
-abbrev pub faultPlace : FaultKind → ℕ
-faultPlace (RankAbove place) = place .0
-faultPlace (NotEachOnce position) = position .0
-faultPlace (ParentLacking station) = station .0
-faultPlace (OtherParent station) = station .0
-faultPlace (TreesApart place) = place .0
-
-abbrev pub verdictSaid : Verdict → Said
-verdictSaid Accepted = accepted
-verdictSaid (Faulty fault) = faulty (fault .round .0) (kindOf (fault .kind)) (faultPlace (fault .kind))
-
-abbrev pub checkedAnswer : Checked → Answer Said
+abbrev pub checkedAnswer : Checked → Answer Verdict
 checkedAnswer (Found verdict) = given (verdictSaid verdict)
 checkedAnswer (Refused r) = refusalAnswer r

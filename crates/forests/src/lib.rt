@@ -1,14 +1,10 @@
 // The check of forests: whether rounds and orders from anywhere meet the published definition.
-mod round; // round.rt: one round of the check
-
 use kinds::Judged;
 use kinds::Level;
 use kinds::LineList;
 use kinds::Place;
-use kinds::Position;
 use kinds::Refusal;
 use kinds::Round;
-use kinds::Station;
 use kinds::first_refusal;
 use limits::judge_length;
 use limits::judge_level;
@@ -17,57 +13,25 @@ use limits::judge_stations;
 use network::judge_list;
 use network::rank_at;
 use request::is_plan_short;
-use round::check_round;
+use rounds::Fault;
+use rounds::FaultKind;
+use rounds::Verdict;
+use rounds::check_round;
+use rounds::is_faulty;
 ghost use mathlib.Core.Path.{_≡_};
 ghost use Prim.Native.Nat.{_*_, _≤_};
 ghost use lib.ListN.{length};
-ghost use Rattle.plans.specs.Verdicts.{isFaulty};
-ghost use Rattle.forests.specs.Answers.{verdictSaid, checkedAnswer};
+ghost use Rattle.rounds.specs.Answers.{verdictSaid};
+ghost use Rattle.forests.specs.Answers.{checkedAnswer};
 ghost use Rattle.kinds.specs.Answers.{judgedAnswer};
 ghost use Rattle.network.specs.Faults.{Sound};
 ghost use Rattle.plans.specs.Checking.{rankVerdict, ranksVerdict, roundsVerdict, planVerdict, planJudged, checkAnswer};
-ghost use Rattle.forests.specs.Tables.{Room};
-
-// What is wrong: a kind of the document's table, with its own place.
-pub enum FaultKind {
-    // A: a line's rank is above k.
-    RankAbove(Place),
-    // B: the round's entries are not each station once.
-    NotEachOnce(Position),
-    // C: a station's line to the earliest of its earlier neighbours in play lacks the round's rank.
-    ParentLacking(Station),
-    // D: a station has a line of the round's rank to another earlier station.
-    OtherParent(Station),
-    // E: a line in play has its ends in different trees.
-    TreesApart(Place),
-}
-
-// A fault, in its round; A has round 0.
-pub struct Fault {
-    pub round: Round,
-    pub kind: FaultKind,
-}
-
-// What is found in a plan: nothing wrong, or its first fault.
-pub enum Verdict {
-    Accepted,
-    Faulty(Fault),
-}
+ghost use Rattle.rounds.specs.Tables.{Room};
 
 // What the check says: what it found, or why the input is refused.
 pub enum Checked {
     Found(Verdict),
     Refused(Refusal),
-}
-
-// Whether a fault was found.
-fn is_faulty(verdict: Verdict) -> bool
-    ensures answer { λ r. ⌜ r ≡ isFaulty (verdictSaid verdict) ⌝ }
-{
-    match verdict {
-        Verdict::Accepted => false,
-        Verdict::Faulty(_) => true,
-    }
 }
 
 // A: the rank of the line at a place is above k.

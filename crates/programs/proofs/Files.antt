@@ -7,10 +7,10 @@ use native.Mathlib.Omega.{arith}
 use lib.ListN.{length, take}
 use lib.Seq.{take-at}
 use Rattle.kinds.specs.Answers.{Answer.given}
-use Rattle.netfile.specs.Parts.{placed}
-use Rattle.netfile.specs.Reading.{Facts, fileRead, readAnswer, linesAfter, startsAfter, lineNumbers, startNumbers}
-use Rattle.netfile.proofs.Contents.{length-lines, length-starts, read-room}
-use Rattle.netfile.proofs.Files.{read-formed}
+use Rattle.reading.specs.Parts.{placed}
+use Rattle.reading.specs.Reading.{Facts, fileRead, readAnswer, linesAfter, startsAfter, lineNumbers, startNumbers}
+use Rattle.reading.proofs.Contents.{length-lines, length-starts, read-room}
+use Rattle.reading.proofs.Files.{read-formed}
 
 pub record ReadInto (bytes : List ℕ) (facts : Facts) (lines starts : List ℕ) : Type 0 where
   pub read : fileRead bytes ≡ given facts

@@ -4,7 +4,7 @@ use Prim.Native.Nat.{ℕ}
 use mathlib.Core.List.{List}
 use Rattle.kinds.specs.Answers.{Answer, Answer.given, Answer.refused}
 use Rattle.prune.specs.Pruning.{pruned, pruneAnswer}
-use Rattle.netfile.specs.Reading.{Facts, fileRead, lineNumbers, startNumbers}
+use Rattle.reading.specs.Reading.{Facts, fileRead, lineNumbers, startNumbers}
 use Rattle.report.specs.Text.{keepText, refusedText}
 
 -- Of a network whose pruning answered: the kept lines, or the refusal.

@@ -3,7 +3,7 @@
 use Prim.Native.Nat.{ℕ}
 use mathlib.Core.List.{List}
 use Rattle.kinds.specs.Answers.{Answer, Answer.given, Answer.refused}
-use Rattle.netfile.specs.Reading.{Facts, fileRead, lineNumbers}
+use Rattle.reading.specs.Reading.{Facts, fileRead, lineNumbers}
 use Rattle.report.specs.Text.{refusedText}
 use Rattle.standing.specs.Text.{weakText}
 use Rattle.weakness.specs.Standing.{Standing, weakAnswer}

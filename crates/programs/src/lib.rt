@@ -1,9 +1,9 @@
 // What the programs write, from the bytes of a file: so that a program only reads and writes.
 use kinds::Level;
-use netfile::Reading;
-use netfile::read;
 use prune::Pruned;
 use prune::prune;
+use reading::Reading;
+use reading::read;
 use report::Written;
 use report::write_kept;
 use report::write_refused;

@@ -4,7 +4,7 @@ use Prim.Native.Nat.{ℕ}
 use mathlib.Core.Bool.{Bool, true, false}
 use mathlib.Core.List.{List, []}
 use Rattle.kinds.specs.Answers.{Answer, Answer.given, Answer.refused}
-use Rattle.netfile.specs.Reading.{Facts}
+use Rattle.reading.specs.Reading.{Facts}
 use Rattle.report.specs.declared.Written.{Written}
 use Rattle.report.specs.declared.Written.the-variants.{Bytes, TooShort}
 use Rattle.weakness.specs.Standing.{Standing, Standing.stands, Standing.weak}

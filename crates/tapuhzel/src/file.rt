@@ -2,14 +2,14 @@
 use crate::said::say_refusal;
 use crate::said::say_taken;
 use kinds::Level;
-use netfile::Reading;
-use netfile::Writing;
+use reading::Reading;
 use report::Written;
+use writing::Writing;
 ghost use mathlib.Core.Path.{_≡_};
 ghost use lib.ListN.{length};
 ghost use lib.Dec.{ltb};
-ghost use Rattle.netfile.specs.Reading.{readAnswer, linesAfter, startsAfter};
-ghost use Rattle.netfile.specs.Writing.{writeAnswer, bytesAfter};
+ghost use Rattle.reading.specs.Reading.{readAnswer, linesAfter, startsAfter};
+ghost use Rattle.writing.specs.Writing.{writeAnswer, bytesAfter};
 ghost use Rattle.report.specs.Answers.{writtenAnswer, writtenOver};
 ghost use Rattle.programs.specs.Keep.{keepOutput};
 ghost use Rattle.programs.specs.Weak.{weakOutput};
@@ -38,7 +38,7 @@ pub extern "C" fn tapuhzel_read(
     ensures place { λ _. ⌜ now (place .exit) ≡ placeSaid (readAnswer (now (bytes .entry)) (now (lines .entry)) (now (starts .entry))) ⌝ }
     ensures list { λ _. ⌜ now (list .exit) ≡ listSaid (readAnswer (now (bytes .entry)) (now (lines .entry)) (now (starts .entry))) ⌝ }
 {
-    let answer = netfile::read(bytes, lines, starts);
+    let answer = reading::read(bytes, lines, starts);
     match answer {
         Reading::Network(found) => {
             *n = found.stations;
@@ -75,7 +75,7 @@ pub extern "C" fn tapuhzel_write(
     ensures place { λ _. ⌜ now (place .exit) ≡ placeSaid (writeAnswer n level (now (lines .entry)) (now (starts .entry)) (now (bytes .entry))) ⌝ }
     ensures list { λ _. ⌜ now (list .exit) ≡ listSaid (writeAnswer n level (now (lines .entry)) (now (starts .entry)) (now (bytes .entry))) ⌝ }
 {
-    let answer = netfile::write(n, Level(level), lines, starts, bytes);
+    let answer = writing::write(n, Level(level), lines, starts, bytes);
     match answer {
         Writing::Bytes(written) => {
             *count = written;

@@ -2,13 +2,13 @@
 use crate::said::say_refusal;
 use crate::said::say_taken;
 use forests::Checked;
-use forests::Fault;
-use forests::FaultKind;
-use forests::Verdict;
 use kinds::Level;
+use rounds::Fault;
+use rounds::FaultKind;
+use rounds::Verdict;
 ghost use mathlib.Core.Path.{_≡_};
 ghost use Rattle.kinds.specs.Answers.{Answer.given};
-ghost use Rattle.forests.specs.Answers.{kindOf, faultPlace, verdictSaid};
+ghost use Rattle.rounds.specs.Answers.{kindOf, faultPlace, verdictSaid};
 ghost use Rattle.plans.specs.Checking.{checkAnswer};
 ghost use Rattle.tapuhzel.specs.Codes.{numberSaid, placeSaid, listSaid, letterNumber, kindSaid, roundSaid, faultPlaceSaid};
 

@@ -1,9 +1,9 @@
 -- `forests::check_rounds` meets its contract. The loop's invariant: round i + 1 has the n places from i times n on, and what is left to
 -- look at from i on is the verdict. The measure is k - i. Assumes nothing.
 use Rattle.plans.specs.Verdicts.{Verdict, Verdict.accepted, isFaulty}
-use Rattle.forests.specs.Tables.{Room}
+use Rattle.rounds.specs.Tables.{Room}
 use Rattle.plans.specs.Checking.{roundVerdict, roundsVerdict, orderOf}
-use Rattle.forests.specs.Answers.{verdictSaid}
+use Rattle.rounds.specs.Answers.{verdictSaid}
 use Rattle.laws.proofs.Lists.{part-next, part-fits}
 use Rattle.laws.proofs.Fold.{first-start, first-next, first-here, first-none}
 use Rattle.laws.specs.Fold.{firstFrom}

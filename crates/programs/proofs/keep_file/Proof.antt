@@ -11,9 +11,9 @@ use lib.Dec.{ltb}
 use lib.ListN.{length}
 use lib.Seq.{length-take-le}
 use Rattle.kinds.specs.Answers.{Answer.given, refusalAnswer}
-use Rattle.netfile.specs.Answers.{factsOf}
-use Rattle.netfile.specs.Reading.{fileRead, readAnswer}
-use Rattle.netfile.proofs.Contents.{read-room}
+use Rattle.reading.specs.Answers.{factsOf}
+use Rattle.reading.specs.Reading.{fileRead, readAnswer}
+use Rattle.reading.proofs.Contents.{read-room}
 use Rattle.report.specs.Answers.{refusedShort}
 use Rattle.programs.specs.Keep.{readText, keepOutput}
 use Rattle.programs.proofs.Files.{ReadInto, read-into}

@@ -10,9 +10,9 @@ use lib.Seq.{length-take-le}
 use lib.ListN.{length}
 use lib.Dec.{ltb}
 use Rattle.report.specs.Answers.{refusedShort}
-use Rattle.netfile.proofs.Contents.{read-room}
-use Rattle.netfile.specs.Reading.{fileRead, readAnswer}
-use Rattle.netfile.specs.Answers.{factsOf}
+use Rattle.reading.proofs.Contents.{read-room}
+use Rattle.reading.specs.Reading.{fileRead, readAnswer}
+use Rattle.reading.specs.Answers.{factsOf}
 use Rattle.kinds.specs.Answers.{Answer.given, refusalAnswer}
 use Rattle.programs.specs.Weak.{weakReadText, weakOutput}
 use Rattle.programs.proofs.Files.{ReadInto, read-into}

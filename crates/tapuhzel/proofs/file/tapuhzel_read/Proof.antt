@@ -1,7 +1,7 @@
 -- `tapuhzel::file::tapuhzel_read` meets its contract. In each arm the answer is that arm's constructor, and each number is the code of it.
 -- Assumes nothing.
-use Rattle.netfile.specs.Reading.{readAnswer}
-use Rattle.netfile.specs.Answers.{factsOf}
+use Rattle.reading.specs.Reading.{readAnswer}
+use Rattle.reading.specs.Answers.{factsOf}
 use Rattle.kinds.specs.Answers.{Answer.given, refusalAnswer}
 use mathlib.Core.Path.{_≡_, sym, _∙_}
 use borrow.Author.Needs.{needs}

@@ -1,6 +1,6 @@
 -- `tapuhzel::file::tapuhzel_write` meets its contract. In each arm the answer is that arm's constructor, and each number is the code of it.
 -- Assumes nothing.
-use Rattle.netfile.specs.Writing.{writeAnswer}
+use Rattle.writing.specs.Writing.{writeAnswer}
 use Rattle.kinds.specs.Answers.{Answer.given, refusalAnswer}
 use mathlib.Core.Path.{_≡_, sym, _∙_}
 use borrow.Author.Needs.{needs}

@@ -1,0 +1,89 @@
+-- `reading::read` meets its contract. What the file's facts say gives the room to copy; a refused call writes nothing. Assumes nothing.
+use mathlib.Core.Path.{_≡_, sym, ap, _∙_}
+use native.Mathlib.Omega.{arith}
+use borrow.Author.Tests.{lt-ltb, le-ltb}
+use borrow.Author.Needs.{needs}
+use lib.ListN.{length}
+use Rattle.kinds.specs.Answers.{Answer.given, refusalAnswer}
+use Rattle.limits.specs.Limits.{roomJudged}
+use Rattle.reading.specs.Reading.{fileRead, readAnswer, linesAfter, startsAfter}
+use Rattle.reading.specs.Answers.{factsOf, readingAnswer}
+use Rattle.reading.proofs.Files.{read-formed}
+use Rattle.reading.proofs.Contents.{read-room}
+use Rattle.reading.proofs.read.Statement.{statement}
+use Rattle.reading.proofs.read.Tie as tie
+
+returns : tie.Need-returns
+unfolding readAnswer linesAfter startsAfter roomJudged
+returns c = let e = lt-ltb (length (c .before .before .before .before .args .lines .now)) 16384 (c .if1 .taken) in (rw e, (rw e, rw e))
+
+returns-2 : tie.Need-returns-2
+unfolding readAnswer linesAfter startsAfter roomJudged
+returns-2 c =
+    let l = le-ltb (length (c .before .before .before .before .before .args .lines .now)) 16384 (c .before .if1 .left) in
+    let e = lt-ltb (length (c .before .before .before .before .before .args .starts .now)) 16 (c .if2 .taken) in
+    (rw (l, e), (rw (l, e), rw (l, e)))
+
+read-file-requires : tie.Need-read-file-requires
+read-file-requires c κs = search needs
+
+enum-known-reading : tie.Need-enum-known-reading
+enum-known-reading c = search needs
+
+copy-lines-requires : tie.Need-copy-lines-requires
+copy-lines-requires c κs =
+    let a = c .before .before .before .before .before .before .before .before .before .before .args in
+    let found = c .before .before .reading .given .0 .0 in
+    let e : fileRead (a .bytes .now) ≡ given (factsOf found) = sym (c .before .before .before .before .read-file .ensures) ∙ ap readingAnswer (c .before .before .reading .given .1) in
+    let f = read-formed (a .bytes .now) (factsOf found) e in
+    (omega (arith, f .size), f .few-lines, omega (arith, f .few-lines))
+
+copy-starts-requires : tie.Need-copy-starts-requires
+copy-starts-requires c κs =
+    let a = c .before .before .before .before .before .before .before .before .before .before .before .before .before .before .args in
+    let found = c .before .before .before .before .before .before .reading .given .0 .0 in
+    let e : fileRead (a .bytes .now) ≡ given (factsOf found) = sym (c .before .before .before .before .before .before .before .before .read-file .ensures) ∙ ap readingAnswer (c .before .before .before .before .before .before .reading .given .1) in
+    let f = read-formed (a .bytes .now) (factsOf found) e in
+    (omega (arith, f .size), f .few-starts, omega (arith, f .few-starts))
+
+enum-known-reading-2 : tie.Need-enum-known-reading-2
+enum-known-reading-2 c = search needs
+
+same-length : tie.Need-same-length
+same-length c = search needs
+
+same-length-2 : tie.Need-same-length-2
+same-length-2 c = search needs
+
+returns-3 : tie.Need-returns-3
+unfolding linesAfter startsAfter
+returns-3 c =
+    let a = c .before .before .before .before .before .before .before .before .before .before .before .before .before .before .before .before .before .args in
+    let found = c .before .before .before .before .before .before .before .before .before .reading .given .0 .0 in
+    let e : fileRead (a .bytes .now) ≡ given (factsOf found) = sym (c .before .before .before .before .before .before .before .before .before .before .before .read-file .ensures) ∙ ap readingAnswer (c .before .before .before .before .before .before .before .before .before .reading .given .1) in
+    let r = read-room (a .bytes .now) (a .lines .now) (a .starts .now) (omega arith) (omega arith) ∙ e in
+    (sym r, (rw r (c .before .before .before .before .before .before .copy-lines .ensures), rw r (c .before .before .copy-starts .ensures)))
+
+returns-4 : tie.Need-returns-4
+unfolding linesAfter startsAfter
+returns-4 c =
+    let a = c .before .before .before .before .before .before .before .before .before .args in
+    let e : fileRead (a .bytes .now) ≡ refusalAnswer (c .before .reading2 .given .0 .0) = sym (c .before .before .before .read-file .ensures) ∙ ap readingAnswer (c .before .reading2 .given .1) in
+    let r = read-room (a .bytes .now) (a .lines .now) (a .starts .now) (omega arith) (omega arith) ∙ e in
+    (sym r, (rw r, rw r))
+
+pub read-spec : {M : Type 1} → statement M
+read-spec =
+    tie.close
+    (tie.spec
+    returns
+    returns-2
+    read-file-requires
+    enum-known-reading
+    copy-lines-requires
+    copy-starts-requires
+    enum-known-reading-2
+    same-length
+    same-length-2
+    returns-3
+    returns-4)

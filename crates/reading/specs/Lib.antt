@@ -1,0 +1,5 @@
+pub mod Numbers
+pub mod Parts
+pub mod Reading
+pub mod Answers
+pub mod Files

@@ -1,0 +1,4 @@
+pub mod Placing
+pub mod Seeing
+pub mod Tables
+pub mod Determined

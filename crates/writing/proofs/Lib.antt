@@ -1,0 +1,5 @@
+pub mod Slices
+pub mod Written
+pub mod WrittenRead
+pub mod ReadWritten
+pub mod Determined
