@@ -1,9 +1,9 @@
 // The network file for C, and what the programs write of one.
-use crate::said::say_refusal;
-use crate::said::say_taken;
+use codes::say_refusal;
+use codes::say_taken;
+use codes::say_written;
 use kinds::Level;
 use reading::Reading;
-use report::Written;
 use writing::Writing;
 ghost use mathlib.Core.Path.{_≡_};
 ghost use lib.ListN.{length};
@@ -13,7 +13,7 @@ ghost use Rattle.writing.specs.Writing.{writeAnswer, bytesAfter};
 ghost use Rattle.report.specs.Answers.{writtenAnswer, writtenOver};
 ghost use Rattle.programs.specs.Keep.{keepOutput};
 ghost use Rattle.programs.specs.Weak.{weakOutput};
-ghost use Rattle.tapuhzel.specs.Codes.{numberSaid, placeSaid, listSaid, countSaid, stationsSaid, levelSaid, linesSaid, startsSaid, writtenNumber, writtenCount};
+ghost use Rattle.codes.specs.Codes.{numberSaid, placeSaid, listSaid, countSaid, stationsSaid, levelSaid, linesSaid, startsSaid, writtenNumber, writtenCount};
 
 // Reads a network file into lent buffers, and says how many stations, lines and starts it has and its level.
 #[no_mangle]
@@ -84,23 +84,6 @@ pub extern "C" fn tapuhzel_write(
         Writing::Refused(refusal) => {
             *count = 0;
             say_refusal(refusal, place, list)
-        }
-    }
-}
-
-// What a text routine says: 0 and the count of bytes, or refusal 5 and none.
-fn say_written(written: Written, count: &mut usize) -> u8
-    ensures number { λ r. ⌜ r ≡ writtenNumber written ⌝ }
-    ensures count { λ _. ⌜ now (count .exit) ≡ writtenCount written ⌝ }
-{
-    match written {
-        Written::Bytes(bytes) => {
-            *count = bytes;
-            0
-        }
-        Written::TooShort => {
-            *count = 0;
-            5
         }
     }
 }

@@ -1,17 +1,16 @@
-// The C face: the public routines on numbers and lent slices. include/tapuhzel.h says how an answer is encoded.
-mod said; // said.rt: a refusal, or that there is none
+// The C face: the public routines on numbers and lent slices. `codes` says how an answer is encoded, and include/tapuhzel.h says it for C.
 mod verdict; // verdict.rt: the check of forests
 mod spot; // spot.rt: weak spots
 mod file; // file.rt: the network file, and the texts of the programs
 
+use codes::say_refusal;
+use codes::say_taken;
 use joined::Answered;
 use kept::Copied;
 use kinds::Judged;
 use kinds::Level;
 use kinds::Station;
 use prune::Pruned;
-use said::say_refusal;
-use said::say_taken;
 use unite::United;
 ghost use mathlib.Core.Path.{_≡_};
 ghost use lib.ListN.{length};
@@ -20,7 +19,7 @@ ghost use Rattle.joined.specs.Asking.{joinedAnswer};
 ghost use Rattle.kept.specs.Kept.{keptLines, copyAnswer, after};
 ghost use Rattle.unite.specs.Union.{united, unionAnswer};
 ghost use Rattle.prune.specs.Pruning.{pruned, pruneAnswer};
-ghost use Rattle.tapuhzel.specs.Codes.{numberSaid, placeSaid, listSaid, countSaid, joinedSaid};
+ghost use Rattle.codes.specs.Codes.{numberSaid, placeSaid, listSaid, countSaid, joinedSaid};
 
 // The judge of a network of n stations and a list of lines.
 #[no_mangle]

@@ -1,7 +1,7 @@
--- `tapuhzel::spot::say_found` meets its contract. In each arm what was found is that arm's constructor, and the code computes. Assumes nothing.
+-- `codes::say_found` meets its contract. In each arm what was found is that arm's constructor, and the code computes. Assumes nothing.
 use borrow.Author.Needs.{needs}
-use Rattle.tapuhzel.proofs.spot.say_found.Statement.{statement}
-use Rattle.tapuhzel.proofs.spot.say_found.Tie as tie
+use Rattle.codes.proofs.say_found.Statement.{statement}
+use Rattle.codes.proofs.say_found.Tie as tie
 
 enum-told : tie.Need-enum-told
 enum-told c = search needs

@@ -1,7 +1,7 @@
--- `tapuhzel::say_verdict` meets its contract. In each arm the verdict is that arm's constructor, and the code computes. Assumes nothing.
+-- `codes::say_verdict` meets its contract. In each arm the verdict is that arm's constructor, and the code computes. Assumes nothing.
 use borrow.Author.Needs.{needs}
-use Rattle.tapuhzel.proofs.verdict.say_verdict.Statement.{statement}
-use Rattle.tapuhzel.proofs.verdict.say_verdict.Tie as tie
+use Rattle.codes.proofs.say_verdict.Statement.{statement}
+use Rattle.codes.proofs.say_verdict.Tie as tie
 
 enum-told : tie.Need-enum-told
 enum-told c = search needs
