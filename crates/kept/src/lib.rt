@@ -36,7 +36,7 @@ pub fn count_kept(ranks: &[u8]) -> usize
 
 // The line at a place is put after the numbers copied so far, if it is kept; how many numbers there are then.
 fn copy_line(lines: &[u16], ranks: &[u8], place: Place, room: &mut [u16], at: usize) -> usize
-    requires { ⌜ (place .0 < length (now ranks)) × (at ≤ length (now room)) × (isKept (now ranks) (place .0) ≡ true → at + 2 ≤ length (now room)) ⌝ }
+    requires { ⌜ (place .0 < length (now ranks)) × (at ≤ length (now room)) × (isKept (now ranks) (place .0) ≡ true → at + 2 ≤ length (now room)) × (place .0 < length (now lines) / 2) ⌝ }
     ensures copied { λ r. ⌜ ((front before : List ℕ) → length before ≡ length (now (room .entry)) → Filled front before at (now (room .entry)) → Filled (copyLine (now (lines .entry)) (now (ranks .entry)) (place .0) front) before r (now (room .exit))) ⌝ }
 {
     let p = place.0 as usize;

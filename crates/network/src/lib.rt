@@ -12,7 +12,7 @@ use limits::judge_stations;
 ghost use mathlib.Core.Path.{_≡_};
 ghost use mathlib.Core.Bool.{false};
 ghost use mathlib.Core.Logic.{_≢_};
-ghost use Prim.Native.Nat.{_+_, _*_, _<_, _≤_};
+ghost use Prim.Native.Nat.{_+_, _*_, _/_, _<_, _≤_};
 ghost use lib.ListN.{length, getD};
 ghost use Rattle.kinds.specs.Answers.{isRefused, judgedAnswer};
 ghost use Rattle.kinds.specs.Refusals.{listNumber};
@@ -26,24 +26,16 @@ pub struct Line {
     pub two: Station,
 }
 
-// The number at an index of a list, as a station; 0 past its end.
-fn end_at(lines: &[u16], index: usize) -> Station
-    ensures end { λ r. ⌜ r .0 ≡ getD (now (lines .entry)) index 0 ⌝ }
-{
-    if index < lines.len() {
-        return Station(lines[index]);
-    }
-    Station(0)
-}
-
 // The line at a place of the list.
 pub fn line_at(lines: &[u16], place: Place) -> Line
+    requires { ⌜ place .0 < length (now lines) / 2 ⌝ }
     ensures ends { λ r. ⌜ (r .one .0 ≡ endOne (now (lines .entry)) (place .0)) × (r .two .0 ≡ endTwo (now (lines .entry)) (place .0)) ⌝ }
 {
     let index = 2 * (place.0 as usize);
-    let one = end_at(lines, index);
-    let two = end_at(lines, index + 1);
-    Line { one, two }
+    Line {
+        one: Station(lines[index]),
+        two: Station(lines[index + 1]),
+    }
 }
 
 // The rank of the line at a place; 0 past the end of the ranks.
@@ -99,7 +91,7 @@ pub fn pair_number(line: Line) -> usize
 
 // The line at a place: refusals 6, 7 and 8. `pairs` remembers the lines before it, and then this one too.
 fn judge_line(list: LineList, n: usize, lines: &[u16], place: Place, pairs: &mut [u64]) -> Judged
-    requires { ⌜ (n ≤ 1024) × Remembers n (now pairs) (now lines) (place .0) ⌝ }
+    requires { ⌜ (n ≤ 1024) × Remembers n (now pairs) (now lines) (place .0) × (place .0 < length (now lines) / 2) ⌝ }
     ensures answer { λ r. ⌜ judgedAnswer r ≡ lineJudged (listNumber list) n (now (lines .entry)) (place .0) ⌝ }
     ensures remembers { λ r. ⌜ (isRefused (judgedAnswer r) ≡ false → Remembers n (now (pairs .exit)) (now (lines .entry)) (place .0 + 1)) ⌝ }
 {

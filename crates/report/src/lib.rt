@@ -183,7 +183,7 @@ fn put_line(text: &mut [u8], at: usize, round: Round, place: Place, line: Line) 
 
 // Writes the row of the line at a place, if its rank is not 0.
 fn put_row(text: &mut [u8], at: usize, lines: &[u16], ranks: &[u8], place: Place) -> usize
-    requires { ⌜ at + 64 ≤ length (now text) ⌝ }
+    requires { ⌜ (at + 64 ≤ length (now text)) × (place .0 < length (now lines) / 2) ⌝ }
     ensures put { λ r. ⌜ Puts (now (text .entry)) at (rowText (now (lines .entry)) (now (ranks .entry)) (place .0)) (now (text .exit)) r ⌝ }
     ensures most { λ r. ⌜ r ≤ at + 64 ⌝ }
 {

@@ -43,6 +43,7 @@ copy-line-requires c κs =
       omega (arith, s .pre .1),
       omega (arith, l .inv .1, s .pre .2, count-rise kept (l .p) (length (a .lines .now) / 2) (omega arith)),
       λ h. omega (arith, l .inv .1, s .pre .2, count-rise kept (l .p + 1) (length (a .lines .now) / 2) (omega arith), rw h at (count-more kept (l .p))),
+      omega arith,
     )
 
 add-p : tie.Need-add-p Inv-loop μ-loop

@@ -33,7 +33,7 @@ cast-t10 : tie.Need-cast-t10 Inv-loop μ-loop
 cast-t10 c = search needs
 
 judge-line-requires : tie.Need-judge-line-requires Inv-loop μ-loop
-judge-line-requires c κs = (c .before .before .before .before .before .pre .0, c .before .before .loop .inv .2)
+judge-line-requires c κs = (c .before .before .before .before .before .pre .0, c .before .before .loop .inv .2, omega arith)
 
 is-refused-requires : tie.Need-is-refused-requires Inv-loop μ-loop
 is-refused-requires c κs = search needs

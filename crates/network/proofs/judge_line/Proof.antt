@@ -17,7 +17,7 @@ use Rattle.network.proofs.judge_line.Statement.{statement}
 use Rattle.network.proofs.judge_line.Tie as tie
 
 line-at-requires : tie.Need-line-at-requires
-line-at-requires c κs = search needs
+line-at-requires c κs = c .before .before .pre .2
 
 judge-ends-requires : tie.Need-judge-ends-requires
 judge-ends-requires c κs = search needs

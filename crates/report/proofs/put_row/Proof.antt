@@ -13,7 +13,7 @@ rank-at-requires c κs = search needs
 returns : tie.Need-returns
 returns c =
     let a = c .before .before .before .before .before .before .args in
-    (rw (row-none (a .lines .now) (a .ranks .now) (a .place .0) (sym (c .before .before .rank-at .ensures) ∙ c .if1 .taken)) (puts-none (a .text .now) (a .at) (omega (arith, c .before .before .before .before .before .before .pre))), omega arith)
+    (rw (row-none (a .lines .now) (a .ranks .now) (a .place .0) (sym (c .before .before .rank-at .ensures) ∙ c .if1 .taken)) (puts-none (a .text .now) (a .at) (omega (arith, c .before .before .before .before .before .before .pre .0))), omega arith)
 
 line-at-requires : tie.Need-line-at-requires
 line-at-requires c κs = search needs

@@ -28,7 +28,7 @@ cast-t12 : tie.Need-cast-t12 Inv-loop μ-loop
 cast-t12 c = search needs
 
 put-row-requires : tie.Need-put-row-requires Inv-loop μ-loop
-put-row-requires c κs = omega (arith, puts-length (c .before .before .loop .inv .1), c .before .before .loop .inv .2, c .before .before .before .before .before .before .pre .1)
+put-row-requires c κs = (omega (arith, puts-length (c .before .before .loop .inv .1), c .before .before .loop .inv .2, c .before .before .before .before .before .before .pre .1), omega arith)
 
 add-p : tie.Need-add-p Inv-loop μ-loop
 add-p c = search needs
