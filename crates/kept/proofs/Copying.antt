@@ -4,8 +4,10 @@ use Prim.Native.Nat.{ℕ, zero, suc, _+_, _*_, _/_, _≤_}
 use mathlib.Core.Path.{_≡_, refl}
 use mathlib.Core.Bool.{Bool, true, false}
 use mathlib.Core.List.{List, [], _∷_, _++_, append-assoc}
+use mathlib.Core.Logic.{_≢_}
 use native.Mathlib.Omega.{arith}
-use lib.ListN.{length, set, take, drop, length-append, List·getD-append}
+use borrow.Author.Tests.{eq-eqb, ne-eqb}
+use lib.ListN.{length, getD, set, take, drop, length-append, List·getD-append}
 use lib.Seq.{length-take-le, getD-take}
 use Rattle.laws.specs.Fold.{pick, upTo}
 use Rattle.laws.specs.Count.{bit, count}
@@ -13,6 +15,19 @@ use Rattle.laws.proofs.Count.{total-same}
 use Rattle.laws.proofs.Lists.{store-next}
 use Rattle.network.specs.Lines.{endOne, endTwo}
 use Rattle.kept.specs.Kept.{isKept, keptCount, copyLine, keptLines, keptOf}
+
+-- By its rank, a line is kept and copied, or it is neither.
+pub kept-some : (ranks : List ℕ) (p : ℕ) → getD ranks p 0 ≢ 0 → isKept ranks p ≡ true
+kept-some ranks p m = rw (ne-eqb (getD ranks p 0) 0 m)
+
+module _ (lines ranks : List ℕ) (p : ℕ) where
+  pub copy-none : (copied : List ℕ) → getD ranks p 0 ≡ 0 → copyLine lines ranks p copied ≡ copied
+  unfolding copyLine
+  copy-none copied e = rw (eq-eqb (getD ranks p 0) 0 e)
+
+  pub copy-some : (copied : List ℕ) → getD ranks p 0 ≢ 0 → copyLine lines ranks p copied ≡ copied ++ (endOne lines p ∷ (endTwo lines p ∷ []))
+  unfolding copyLine
+  copy-some copied m = rw (ne-eqb (getD ranks p 0) 0 m)
 
 -- Two numbers for each kept line.
 pub copy-size : (lines ranks : List ℕ) (p : ℕ) → length (upTo (copyLine lines ranks) [] p) ≡ 2 * count p (isKept ranks)

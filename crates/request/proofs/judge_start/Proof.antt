@@ -3,6 +3,7 @@
 use native.Mathlib.Omega.{arith}
 use borrow.Author.Tests.{le-leb, lt-leb}
 use borrow.Author.Needs.{needs}
+use lib.ListN.{getD}
 use Rattle.request.specs.Judging.{startJudged}
 use Rattle.request.proofs.judge_start.Statement.{statement}
 use Rattle.request.proofs.judge_start.Tie as tie
@@ -27,11 +28,11 @@ cast-t11 c = search needs
 
 returns : tie.Need-returns
 unfolding startJudged
-returns c = simp (le-leb _ _ (c .if1 .taken))
+returns c = let a = c .before .before .before .args in simp (le-leb (a .n) (getD (a .starts .now) (a .position .0) 0) (c .if1 .taken))
 
 returns-2 : tie.Need-returns-2
 unfolding startJudged
-returns-2 c = simp (lt-leb _ _ (c .if1 .left))
+returns-2 c = let a = c .before .before .before .args in simp (lt-leb (a .n) (getD (a .starts .now) (a .position .0) 0) (c .if1 .left))
 
 pub judge-start-spec : {M : Type 1} → statement M
 judge-start-spec =

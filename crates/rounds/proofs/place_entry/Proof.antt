@@ -27,7 +27,9 @@ cast-v c = omega (arith, c .shared-slice-known .given (c .before .before .args .
 
 returns : tie.Need-returns
 unfolding entryVerdict
-returns c = (rw (le-leb _ _ (c .if1 .taken)), λ e. absurd (true≢false e))
+returns c =
+    let a = c .before .before .before .args in
+    (rw (le-leb (a .n) (getD (a .order .now) (a .position .0) 0) (c .if1 .taken)), λ e. absurd (true≢false e))
 
 mul-if2 : tie.Need-mul-if2
 mul-if2 c = search needs

@@ -5,7 +5,7 @@ use Rattle.pieces.specs.Away.{Unmarked}
 use Rattle.laws.proofs.Fold.{first-next, first-here, first-none}
 use Rattle.laws.specs.Fold.{firstFrom}
 use lib.ListN.{length}
-use mathlib.Core.Path.{_≡_, refl, sym, _∙_}
+use mathlib.Core.Path.{_≡_, refl, sym, ap, _∙_}
 use mathlib.Core.List.{[], _∷_}
 use mathlib.Core.Bool.{true, false}
 use Prim.Native.Nat.{ℕ, _-_, _≤_, _<_}
@@ -50,7 +50,7 @@ returns c =
     let a = c .before .before .before .before .before .before .before .before .before .before .before .before .before .before .before .args in
     let p = c .before .before .before .before .before .before .before .before .before .before .before .before .before .before .before .pre in
     let find : ℕ → Standing = λ (x : ℕ). without (a .n) (a .lines .now) (a .one .0 ∷ (x ∷ [])) in
-    let e : isWeak (find (c .before .before .before .before .before .before .before .before .before .before .loop .w)) ≡ true = rw (← (c .before .before .before .before .before .before .try-two .ensures .0)) (sym (c .before .is-weak .ensures) ∙ c .if1 .taken) in
+    let e : isWeak (find (c .before .before .before .before .before .before .before .before .before .before .loop .w)) ≡ true = ap isWeak (sym (c .before .before .before .before .before .before .try-two .ensures .0)) ∙ (sym (c .before .is-weak .ensures) ∙ c .if1 .taken) in
     (c .before .before .before .before .before .before .try-two .ensures .0 ∙ sym (c .before .before .before .before .before .before .before .before .before .before .loop .inv .5 ∙ first-here isWeak find stands (a .n) (c .before .before .before .before .before .before .before .before .before .before .loop .w) (omega (arith, c .before .before .before .before .before .before .before .before .before .loop-test .taken)) e), c .before .before .before .before .before .before .try-two .ensures .1)
 
 add-w : tie.Need-add-w Inv-loop μ-loop
@@ -64,7 +64,7 @@ loop-again c =
     let a = c .before .before .before .before .before .before .before .before .before .before .before .before .before .before .before .args in
     let p = c .before .before .before .before .before .before .before .before .before .before .before .before .before .before .before .pre in
     let find : ℕ → Standing = λ (x : ℕ). without (a .n) (a .lines .now) (a .one .0 ∷ (x ∷ [])) in
-    let e : isWeak (find (c .before .before .before .before .before .before .before .before .before .before .loop .w)) ≡ false = rw (← (c .before .before .before .before .before .before .try-two .ensures .0)) (sym (c .before .is-weak .ensures) ∙ c .if1 .left) in
+    let e : isWeak (find (c .before .before .before .before .before .before .before .before .before .before .loop .w)) ≡ false = ap isWeak (sym (c .before .before .before .before .before .before .try-two .ensures .0)) ∙ (sym (c .before .is-weak .ensures) ∙ c .if1 .left) in
     (omega arith, omega (arith, c .before .before .before .before .before .before .before .before .before .loop-test .taken), omega arith, c .before .before .before .before .before .before .try-two .ensures .1, omega arith, c .before .before .before .before .before .before .before .before .before .before .loop .inv .5 ∙ first-next isWeak find stands (a .n) (c .before .before .before .before .before .before .before .before .before .before .loop .w) (omega (arith, c .before .before .before .before .before .before .before .before .before .loop-test .taken)) e)
 
 same-length-3 : tie.Need-same-length-3 Inv-loop μ-loop
