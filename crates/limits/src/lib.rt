@@ -4,21 +4,30 @@ use kinds::Level;
 use kinds::LineList;
 use kinds::Refusal;
 ghost use mathlib.Core.Path.{_≡_};
-ghost use Rattle.kinds.specs.Answers.{judgedAnswer};
-ghost use Rattle.kinds.specs.Refusals.{listNumber};
+ghost use mathlib.Core.Bool.{_||_};
+ghost use lib.Dec.{ltb};
+ghost use Rattle.kinds.specs.Answers.{judgedAnswer, refuseIf};
+ghost use Rattle.kinds.specs.Refusals.{listNumber, numberOf, placeOf, listOf};
 ghost use Rattle.limits.specs.Limits.{stationsJudged, lengthJudged, levelJudged, roomJudged, weakLevelJudged};
+
+// A number is taken from `low` to `high`, and else refused.
+fn judge_between(low: usize, high: usize, number: usize, refusal: Refusal) -> Judged
+    ensures answer { λ r. ⌜ judgedAnswer r ≡ refuseIf (ltb number low || ltb high number) (numberOf refusal) (placeOf refusal) (listOf refusal) ⌝ }
+{
+    if number < low {
+        return Judged::Refused(refusal);
+    }
+    if high < number {
+        return Judged::Refused(refusal);
+    }
+    Judged::Taken
+}
 
 // Refusal 1: n is not 1 to 1,024.
 pub fn judge_stations(n: usize) -> Judged
     ensures answer { λ r. ⌜ judgedAnswer r ≡ stationsJudged n ⌝ }
 {
-    if n < 1 {
-        return Judged::Refused(Refusal::StationCount);
-    }
-    if 1024 < n {
-        return Judged::Refused(Refusal::StationCount);
-    }
-    Judged::Taken
+    judge_between(1, 1024, n, Refusal::StationCount)
 }
 
 // Refusal 2: the line list has an odd length or over 16,384 numbers.
@@ -38,14 +47,7 @@ pub fn judge_length(list: LineList, lines: &[u16]) -> Judged
 pub fn judge_level(level: Level) -> Judged
     ensures answer { λ r. ⌜ judgedAnswer r ≡ levelJudged (level .0) ⌝ }
 {
-    let k = level.0;
-    if k < 1 {
-        return Judged::Refused(Refusal::LevelRange);
-    }
-    if 16 < k {
-        return Judged::Refused(Refusal::LevelRange);
-    }
-    Judged::Taken
+    judge_between(1, 16, level.0, Refusal::LevelRange)
 }
 
 // Refusal 5: a lent buffer is shorter than needed.
@@ -62,12 +64,5 @@ pub fn judge_room(short: bool) -> Judged
 pub fn judge_weak_level(level: Level) -> Judged
     ensures answer { λ r. ⌜ judgedAnswer r ≡ weakLevelJudged (level .0) ⌝ }
 {
-    let k = level.0;
-    if k < 1 {
-        return Judged::Refused(Refusal::WeakLevel);
-    }
-    if 3 < k {
-        return Judged::Refused(Refusal::WeakLevel);
-    }
-    Judged::Taken
+    judge_between(1, 3, level.0, Refusal::WeakLevel)
 }

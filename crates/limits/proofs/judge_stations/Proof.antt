@@ -1,20 +1,15 @@
--- `limits::judge_stations` meets its contract. Each return rewrites by the tests that led to it. Assumes nothing.
-use borrow.Author.Tests.{lt-ltb, le-ltb}
+-- `limits::judge_stations` meets its contract. The definition is that of `judge_between` with its limits. Assumes nothing.
+use borrow.Author.Needs.{needs}
 use Rattle.limits.specs.Limits.{stationsJudged}
 use Rattle.limits.proofs.judge_stations.Statement.{statement}
 use Rattle.limits.proofs.judge_stations.Tie as tie
 
+judge-between-requires : tie.Need-judge-between-requires
+judge-between-requires c κs = search needs
+
 returns : tie.Need-returns
 unfolding stationsJudged
-returns c = simp (lt-ltb _ _ (c .if1 .taken))
-
-returns-2 : tie.Need-returns-2
-unfolding stationsJudged
-returns-2 c = simp (le-ltb _ _ (c .before .if1 .left), lt-ltb _ _ (c .if2 .taken))
-
-returns-3 : tie.Need-returns-3
-unfolding stationsJudged
-returns-3 c = simp (le-ltb _ _ (c .before .if1 .left), le-ltb _ _ (c .if2 .left))
+returns c = c .judge-between .ensures
 
 pub judge-stations-spec : {M : Type 1} → statement M
-judge-stations-spec = tie.close (tie.spec returns returns-2 returns-3)
+judge-stations-spec = tie.close (tie.spec judge-between-requires returns)
