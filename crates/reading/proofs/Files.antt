@@ -11,12 +11,12 @@ use borrow.Author.Tests.{ltb-false, eqb-true, not-false, le-ltb, eq-eqb}
 use lib.ListN.{length}
 use lib.Dec.{ltb, eqb}
 use Rattle.kinds.specs.Answers.{Answer, Answer.given, Answer.refused, refuseIf, isRefused, _andThen_}
-use Rattle.kinds.proofs.Answers.{passed}
+use Rattle.kinds.proofs.Answers.{then-given, passed}
 use Rattle.reading.specs.Numbers.{numberAt, markNW, markLN, markRT, markEN}
 use Rattle.reading.specs.Reading.{Facts, offsetAfter, lengthHere, recordJudged, recordAfter, endRead, byMark, recordsRead, fileRead}
 use Rattle.reading.specs.Files.{Formed}
 use Rattle.reading.specs.declared.Order.the-variants.{First}
-use Rattle.reading.proofs.Records.{then-given, whole-record, first-whole, Kind, Kind.line, Kind.start, Kind.end, Next, next-given, line-next, start-next, end-next, read-line, read-start, read-end}
+use Rattle.reading.proofs.Records.{whole-record, first-whole, Kind, Kind.line, Kind.start, Kind.end, Next, next-given, line-next, start-next, end-next, read-line, read-start, read-end}
 
 module _ (bytes : List ℕ) where
   -- NW, m LN and s RT records were seen, each in its place.
@@ -58,10 +58,10 @@ module _ (bytes : List ℕ) where
       let count = eqb (numberAt bytes (offsetAfter m s + 2)) m in
       let more = ltb (offsetAfter m s + 4) (length bytes) in
       let answer : Answer Facts = given found in
-      let (b, a₁) = then-given (refuseIf (not count) 22 (offsetAfter m s) 3) (refuseIf more 23 (offsetAfter m s + 4) 3 andThen answer) facts a in
-      let (d, a₂) = then-given (refuseIf more 23 (offsetAfter m s + 4) 3) answer facts a₁ in
+      let (b, a₁) = then-given (refuseIf (not count) 22 (offsetAfter m s) 3) (refuseIf more 23 (offsetAfter m s + 4) 3 andThen answer) a in
+      let (d, a₂) = then-given (refuseIf more 23 (offsetAfter m s + 4) 3) answer a₁ in
       let same : found ≡ facts = cc in
-      let last = ltb-false (offsetAfter m s + 4) (length bytes) (passed more 23 (offsetAfter m s + 4) 3 d) in
+      let last = ltb-false (offsetAfter m s + 4) (length bytes) (passed more 23 (offsetAfter m s + 4) 3 (ap isRefused d)) in
       subst (λ (f : Facts). Formed bytes f) same
       (record {
         size = omega arith;
@@ -73,7 +73,7 @@ module _ (bytes : List ℕ) where
         line-marks = seen .line-marks;
         start-marks = seen .start-marks;
         end-mark = next .is ∙ e;
-        end-count = eqb-true (numberAt bytes (offsetAfter m s + 2)) m (not-false count (passed (not count) 22 (offsetAfter m s) 3 b));
+        end-count = eqb-true (numberAt bytes (offsetAfter m s + 2)) m (not-false count (passed (not count) 22 (offsetAfter m s) 3 (ap isRefused b)));
       })
 
   records-formed : (facts : Facts) (left m s : ℕ) → Seen m s → recordsRead bytes m s left ≡ given facts → Formed bytes facts
@@ -103,8 +103,8 @@ module _ (bytes : List ℕ) where
   pub read-formed : (facts : Facts) → fileRead bytes ≡ given facts → Formed bytes facts
   unfolding fileRead
   read-formed facts e =
-      let (a, e₁) = then-given (recordJudged First bytes 0) (recordsRead bytes 0 0 (length bytes)) facts e in
-      let (n, h) = first-whole bytes a in
+      let (a, e₁) = then-given (recordJudged First bytes 0) (recordsRead bytes 0 0 (length bytes)) e in
+      let (n, h) = first-whole bytes (ap isRefused a) in
       records-formed facts (length bytes) 0 0
       (record { first = n; few-lines = omega arith; few-starts = omega arith; line-marks = λ p l. absurd (omega arith); start-marks = λ q l. absurd (omega arith) })
       e₁

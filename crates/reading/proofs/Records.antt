@@ -3,7 +3,7 @@
 use Prim.Native.Nat.{ℕ, zero, suc, _+_, _<_, _≤_}
 use mathlib.Core.Path.{_≡_, refl, sym, ap, _∙_, subst}
 use mathlib.Core.Logic.{_≢_, _⊎_, _⊎_.inl, _⊎_.inr}
-use mathlib.Core.Bool.{Bool, true, false, _&&_, _||_, true≢false}
+use mathlib.Core.Bool.{Bool, true, false, _&&_, _||_}
 use mathlib.Core.List.{List}
 use native.Mathlib.Omega.{arith}
 use borrow.Author.Tests.{ltb-false, eqb-true, eqb-false, le-ltb, eq-eqb, ne-eqb}
@@ -11,16 +11,11 @@ use lib.ListN.{length}
 use lib.Dec.{ltb, eqb}
 use Rattle.laws.specs.Fold.{pick}
 use Rattle.kinds.specs.Answers.{Answer, Answer.given, Answer.refused, taken, refuseIf, _andThen_, isRefused}
-use Rattle.kinds.proofs.Answers.{then-both, passed}
+use Rattle.kinds.proofs.Answers.{then-both, then-given, passed}
 use Rattle.reading.specs.Numbers.{numberAt, markNW, markLN, markRT, markEN}
 use Rattle.reading.specs.Reading.{offsetAfter, lengthHere, recordJudged, orderAfter, recordCounted, recordAfter, endRead, byMark, recordsRead}
 use Rattle.reading.specs.declared.Order.{Order}
 use Rattle.reading.specs.declared.Order.the-variants.{First, Lines, Starts}
-
--- Where tries in order give a value, the first did not refuse, and the rest give it.
-pub then-given : {A : Type 0} (a : Answer (Unit {0})) (b : Answer A) (value : A) → a andThen b ≡ given value → (isRefused a ≡ false) × (b ≡ given value)
-then-given (given x) b value e = (refl, e)
-then-given (refused number place list) b value e = absurd (true≢false (ap isRefused e))
 
 -- An allowed record stands whole at an offset.
 pub record Whole (order : Order) (bytes : List ℕ) (offset : ℕ) : Type 0 where
@@ -111,18 +106,18 @@ next-given bytes m s mark e =
     let lines = refuseIf (eqb here markLN && eqb m 8192) 2 (offsetAfter m s) 3 in
     let starts = refuseIf (eqb here markRT && eqb s 16) 4 (offsetAfter m s) 3 in
     let answer : Answer ℕ = given here in
-    let (a, e₁) = then-given (recordJudged (orderAfter s) bytes (offsetAfter m s)) (lines andThen starts andThen answer) mark e in
-    let (b, e₂) = then-given lines (starts andThen answer) mark e₁ in
-    let (d, e₃) = then-given starts answer mark e₂ in
-    let r = record-whole (orderAfter s) bytes (offsetAfter m s) a in
+    let (a, e₁) = then-given (recordJudged (orderAfter s) bytes (offsetAfter m s)) (lines andThen starts andThen answer) e in
+    let (b, e₂) = then-given lines (starts andThen answer) e₁ in
+    let (d, e₃) = then-given starts answer e₂ in
+    let r = record-whole (orderAfter s) bytes (offsetAfter m s) (ap isRefused a) in
     let is : here ≡ mark = cc in
     record {
       is = is;
       size = lengthHere (orderAfter s) here;
       kind = subst (λ (x : ℕ). Kind s x (lengthHere (orderAfter s) here)) is (kind-here s here (r .allowed));
       whole = r .whole;
-      few-lines = λ h. not-both here markLN m 8192 (passed (eqb here markLN && eqb m 8192) 2 (offsetAfter m s) 3 b) (is ∙ h);
-      few-starts = λ h. not-both here markRT s 16 (passed (eqb here markRT && eqb s 16) 4 (offsetAfter m s) 3 d) (is ∙ h);
+      few-lines = λ h. not-both here markLN m 8192 (passed (eqb here markLN && eqb m 8192) 2 (offsetAfter m s) 3 (ap isRefused b)) (is ∙ h);
+      few-starts = λ h. not-both here markRT s 16 (passed (eqb here markRT && eqb s 16) 4 (offsetAfter m s) 3 (ap isRefused d)) (is ∙ h);
     }
 
 -- The other way: a whole record of each kind, not one too many, is given by its mark.
