@@ -18,8 +18,9 @@ use Rattle.plans.specs.Plans.{PlanMeets}
 use Rattle.kept.specs.Kept.{copyLine, keptLines}
 use Rattle.pieces.specs.Joined.{Remains, Joined}
 use Rattle.certificate.specs.Alike.{Alike}
+use Rattle.certificate.specs.Seven.{seven, sevenRanks}
 use Rattle.certificate.proofs.Kept.{kept-alike}
-use Rattle.certificate.proofs.Seven.{differ, differ-same, one-side, seven, sevenRanks, seven-sound}
+use Rattle.certificate.proofs.Seven.{differ, differ-same, one-side, seven-sound}
 
 -- Line p joins stations of two sides, and neither is taken away.
 abbrev crosses : List ℕ → (away side : ℕ → Bool) → ℕ → Bool

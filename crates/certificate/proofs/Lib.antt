@@ -7,7 +7,7 @@ pub mod Kept
 pub mod Few
 pub mod AlikeLaws
 pub mod Pruned
-pub mod Answers
 pub mod Demand3
+pub mod Calls
 pub mod Seven
 pub mod Counterexample

@@ -1,4 +1,4 @@
--- THEOREM. What pruning gives meets the published definition, so the check accepts it. The idea: a round takes each station's line to the first of
+-- THEOREM. What pruning gives meets the published definition. The idea: a round takes each station's line to the first of
 -- its earlier neighbours in play, and begins a new tree only where no line in play leads on, so a line in play has its ends in one tree.
 -- Assumes nothing.
 use Prim.Native.Nat.{ℕ, zero, suc, _+_, _<_, _≤_}
@@ -13,14 +13,12 @@ use Rattle.network.specs.Chains.{Hop, Hop.by, Chain, Chain.here, Every}
 use Rattle.network.specs.Faults.{Sound}
 use Rattle.network.specs.Orders.{EachOnce}
 use Rattle.network.proofs.Chains.{hop-back, hop-in, hop-apart, chain-hop, chain-join, chain-back}
-use Rattle.plans.specs.Verdicts.{Verdict.accepted}
-use Rattle.plans.specs.Checking.{positionOf, orderOf, planVerdict}
+use Rattle.plans.specs.Orders.{orderOf, positionOf}
 use Rattle.plans.specs.Plans.{InPlay, OfRank, PlanMeets}
 use Rattle.plans.specs.Faults.{Beside, Tied, Earliest, StationGood}
 use Rattle.plans.proofs.Hops.{firstBeside, Searched, searched}
 use Rattle.plans.proofs.Orders.{order-position, position-below, position-one}
 use Rattle.plans.proofs.Greedy.{RoundGood, good-meets}
-use Rattle.plans.proofs.Plans.{meets-accepted}
 use Rattle.prune.specs.Pruning.{pruned}
 use Rattle.prune.proofs.Plans.{pruned-ranks, pruned-orders}
 use Rattle.prune.proofs.RoundsFirst.{RoundLeads, RoundNeighbour, RoundFirst, pruned-first}
@@ -125,8 +123,3 @@ module _ (n k : ℕ) (lines starts : List ℕ) (sound : Sound n lines) (starts-i
             good-meets n lines (pruned n k lines starts .ranks) (i + 1) (orderOf n (pruned n k lines starts .orders) i) (sound .simple)
             (first-good first (sound .simple .proper) (pruned-orders n k lines starts i l));
       }
-
-  -- THEOREM. What pruning gives, the check accepts. Demand 2: "The checker says yes exactly to those rounds and orders that meet the published
-  -- definition of such forests, ours among them."
-  pub pruned-accepted : planVerdict n k lines (pruned n k lines starts .ranks) (pruned n k lines starts .orders) ≡ accepted
-  pruned-accepted = meets-accepted n k lines (pruned n k lines starts .ranks) (pruned n k lines starts .orders) sound pruned-meets

@@ -22,6 +22,7 @@ use Rattle.network.proofs.Sound.{taken-sound}
 use Rattle.plans.specs.Published.{MaximalForest}
 use Rattle.plans.specs.Plans.{InPlay, OfRank}
 use Rattle.laws.proofs.Truth.{neither}
+use Rattle.certificate.specs.Seven.{seven, sevenRanks}
 
 -- ── a cut that no hop crosses parts its sides ──
 
@@ -41,12 +42,6 @@ one-side side f (here s) = refl
 one-side side f (step s h c) = f _ _ s (chain-start c) h ∙ one-side side f c
 
 -- ── the seven stations ──
-
-abbrev pub seven : List ℕ
-seven = 0 ∷ 1 ∷ 0 ∷ 2 ∷ 1 ∷ 2 ∷ 1 ∷ 3 ∷ 0 ∷ 3 ∷ 0 ∷ 4 ∷ 2 ∷ 4 ∷ 1 ∷ 5 ∷ 3 ∷ 5 ∷ 2 ∷ 6 ∷ 4 ∷ 6 ∷ []
-
-abbrev pub sevenRanks : List ℕ
-sevenRanks = 1 ∷ 1 ∷ 0 ∷ 2 ∷ 2 ∷ 2 ∷ 2 ∷ 1 ∷ 1 ∷ 1 ∷ 1 ∷ []
 
 pub seven-sound : Sound 7 seven
 unfolding listJudged stationsJudged lengthJudged linesJudged lineJudged endsJudged sameEnds firstFrom

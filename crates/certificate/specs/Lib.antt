@@ -1,2 +1,4 @@
 pub mod Alike
 pub mod Starts
+pub mod Calls
+pub mod Seven

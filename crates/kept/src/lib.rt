@@ -10,8 +10,8 @@ ghost use mathlib.Core.Bool.{true};
 ghost use mathlib.Core.List.{List, _++_};
 ghost use Prim.Native.Nat.{ℕ, _+_, _*_, _/_, _≤_, _<_};
 ghost use lib.ListN.{length, drop};
-ghost use Rattle.kept.specs.Answers.{copiedAnswer};
-ghost use Rattle.kept.specs.Kept.{isKept, keptCount, copyLine, keptLines, keptOf, copyAnswer, after};
+ghost use Rattle.kept.specs.Answers.{CopyAllows};
+ghost use Rattle.kept.specs.Kept.{isKept, keptCount, copyLine, keptLines, keptOf};
 ghost use Rattle.kept.specs.Filled.{Filled};
 
 // What copying says: how many lines it wrote, or why it refuses.
@@ -74,8 +74,7 @@ fn count_of(lines: &[u16], ranks: &[u8]) -> usize
 
 // Copies the kept lines of a list out, in list order. Any nonzero rank is kept.
 pub fn copy_kept(lines: &[u16], ranks: &[u8], room: &mut [u16]) -> Copied
-    ensures answer { λ r. ⌜ copiedAnswer r ≡ copyAnswer (now (lines .entry)) (now (ranks .entry)) (length (now (room .entry))) ⌝ }
-    ensures room { λ r. ⌜ now (room .exit) ≡ after (copiedAnswer r) (keptLines (now (lines .entry)) (now (ranks .entry))) (now (room .entry)) ⌝ }
+    ensures allowed { λ r. ⌜ CopyAllows (now (lines .entry)) (now (ranks .entry)) (now (room .entry)) r (now (room .exit)) ⌝ }
 {
     let length = judge_length(LineList::Only, lines);
     if let Judged::Refused(refusal) = length {

@@ -8,6 +8,8 @@ use native.Mathlib.Nat.{sub-zero, add-zero, add-suc, suc-add, zero-add}
 use native.Mathlib.Numerals.{add-one}
 use native.Mathlib.Omega.{arith}
 use native.Mathlib.Decide.{ℕ-discrete, decLt}
+use borrow.Author.Tests.{le-ltb, lt-ltb}
+use lib.Dec.{ltb}
 use Rattle.laws.specs.Fold.{pick, upTo, firstFrom, anyFrom, lowest}
 
 -- What is so at i, and later than i, is so from i on.
@@ -170,6 +172,22 @@ first-agree test test′ f f′ last zero i h = refl
 first-agree test test′ f f′ last (suc k) i h =
     let (e, g) = h i (omega arith) (omega arith) in
     rw (e, g, first-agree test test′ f f′ last k (suc i) (λ j a b. h j (omega arith) (omega arith)))
+
+-- A search whose answers' tests are told by a mark at each number: the answer at the first number marked, which is n or more where none is.
+pub first-marked : {A : Type 0} (test : A → Bool) (f : ℕ → A) (last : A) (mark : ℕ → Bool) (n k i : ℕ) → i + k ≤ n
+    → ((j : ℕ) → i ≤ j → j < i + k → mark j ≡ test (f j))
+    → firstFrom test f last i k ≡ pick (ltb (firstFrom mark (λ j. j) n i k) n) (f (firstFrom mark (λ j. j) n i k)) last
+unfolding firstFrom
+first-marked test f last mark n zero i h says = rw (le-ltb n n (omega arith))
+first-marked {A} test f last mark n (suc k) i h says = go (mark i) refl (first-marked test f last mark n k (suc i) (omega arith) (λ j a b. says j (omega arith) (omega arith)))
+  where
+    found : ℕ
+    found = firstFrom mark (λ j. j) n (suc i) k
+
+    go : (b : Bool) → mark i ≡ b → firstFrom test f last (suc i) k ≡ pick (ltb found n) (f found) last
+        → pick (test (f i)) (f i) (firstFrom test f last (suc i) k) ≡ pick (ltb (pick b i found) n) (f (pick b i found)) last
+    go true e ih = rw (← (says i (omega arith) (omega arith)), e, lt-ltb i n (omega arith))
+    go false e ih = rw (← (says i (omega arith) (omega arith)), e) ih
 
 -- Two searches that try the same find the same.
 pub first-same : {A : Type 0} (test : A → Bool) (f f′ : ℕ → A) (last : A) (k i : ℕ)

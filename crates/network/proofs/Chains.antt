@@ -68,6 +68,11 @@ chain-by f (step s h c) = chain-join (f _ _ s (chain-start c) h) (chain-by f c)
 pub chain-map : {hop hop′ : ℕ → ℕ → Type 0} {stays : ℕ → Type 0} {u v : ℕ} → ((x y : ℕ) → hop x y → hop′ x y) → Chain hop stays u v → Chain hop′ stays u v
 chain-map f c = chain-by (λ x y s t h. chain-hop s t (f x y h)) c
 
+-- A chain whose stations stay by one rule is one whose stations stay by another, if each of them does.
+pub chain-stays : {hop : ℕ → ℕ → Type 0} {stays stays′ : ℕ → Type 0} {u v : ℕ} → ((x : ℕ) → stays x → stays′ x) → Chain hop stays u v → Chain hop stays′ u v
+chain-stays f (here s) = here (f _ s)
+chain-stays f (step s h c) = step (f _ s) h (chain-stays f c)
+
 -- What each hop keeps, a chain keeps.
 pub chain-keeps : {hop : ℕ → ℕ → Type 0} {stays : ℕ → Type 0} {u v : ℕ} (P : ℕ → Type 0) → ((x y : ℕ) → hop x y → P x → P y) → Chain hop stays u v → P u → P v
 chain-keeps P keep (here s) h = h

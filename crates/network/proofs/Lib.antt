@@ -4,3 +4,4 @@ pub mod Judging
 pub mod Sound
 pub mod Chains
 pub mod Longer
+pub mod Determined

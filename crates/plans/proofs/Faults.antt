@@ -15,7 +15,8 @@ use Rattle.laws.proofs.Fold.{first-last, some-any}
 use Rattle.network.specs.Lines.{endOne, endTwo, network, Proper}
 use Rattle.network.specs.Orders.{EachOnce}
 use Rattle.plans.specs.Verdicts.{faultIf, Kind, Kind.A, Kind.B, Kind.C, Kind.D, Kind.E, Verdict.accepted, Verdict.faulty}
-use Rattle.plans.specs.Checking.{inPlay, rankVerdict, entryVerdict, hasParent, hasOther, parentVerdict, otherVerdict, stationVerdict, positionOf, lineVerdict}
+use Rattle.plans.specs.Orders.{positionOf}
+use Rattle.plans.specs.Checking.{inPlay, rankVerdict, entryVerdict, hasParent, hasOther, parentVerdict, otherVerdict, stationVerdict, lineVerdict}
 use Rattle.plans.specs.Plans.{InPlay}
 use Rattle.plans.specs.Faults.{EntryGood, EntryFault, EntryFault.outside, EntryFault.stood, Beside, Tied, Earliest, StationGood, StationFault, StationFault.parent, StationFault.other, EndsJoined}
 use Rattle.plans.proofs.Hops.{in-play, play-in, linked-tied, tied-linked, isTied, firstBeside, Searched, searched, earliest-one}

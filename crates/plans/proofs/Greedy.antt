@@ -12,7 +12,7 @@ use Rattle.network.specs.Lines.{endOne, endTwo, network, Joins, Joins.forth, Jo
 use Rattle.network.specs.Chains.{Hop, Hop.by, Chain, Every}
 use Rattle.network.specs.Orders.{EachOnce}
 use Rattle.network.proofs.Chains.{hop-back, hop-in, hop-apart, hop-map, chain-back, chain-keeps}
-use Rattle.plans.specs.Checking.{positionOf}
+use Rattle.plans.specs.Orders.{positionOf}
 use Rattle.plans.specs.Published.{Arrow, Rooted, Parent, Parent.above, Parent.itself, Greedy}
 use Rattle.plans.specs.Plans.{InPlay, OfRank, RoundMeets}
 use Rattle.plans.specs.Faults.{Beside, Tied, Earliest, StationGood, EndsJoined}

@@ -5,5 +5,7 @@ pub mod Greedy
 pub mod Faults
 pub mod Rounds
 pub mod Plans
+pub mod Answers
+pub mod Front
 pub mod Verdicts
 pub mod Judging

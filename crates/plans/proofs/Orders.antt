@@ -18,7 +18,7 @@ use Rattle.laws.proofs.Count.{count-none, count-full, count-one-more}
 use Rattle.laws.proofs.Fold.{first-last, first-at, any-some, any-more}
 use Rattle.laws.proofs.Lists.{part-fits}
 use Rattle.network.specs.Orders.{EachOnce}
-use Rattle.plans.specs.Checking.{positionOf, orderOf}
+use Rattle.plans.specs.Orders.{orderOf, positionOf}
 use Rattle.plans.specs.Faults.{EntryGood}
 
 -- A round's order has n entries, if the plan has room for it.

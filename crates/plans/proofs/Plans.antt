@@ -11,7 +11,8 @@ use lib.ListN.{length, getD}
 use Rattle.laws.proofs.Fold.{first-last, first-at}
 use Rattle.network.specs.Faults.{Sound}
 use Rattle.plans.specs.Verdicts.{Kind, Kind.A, Verdict, Verdict.accepted, Verdict.faulty, isFaulty}
-use Rattle.plans.specs.Checking.{rankVerdict, ranksVerdict, roundVerdict, orderOf, planVerdict, roundsVerdict}
+use Rattle.plans.specs.Orders.{orderOf}
+use Rattle.plans.specs.Checking.{rankVerdict, ranksVerdict, roundVerdict, planVerdict, roundsVerdict}
 use Rattle.plans.specs.Plans.{RoundMeets, PlanMeets}
 use Rattle.plans.specs.Faults.{RoundFault, FirstFault, FirstFault.rank, FirstFault.round}
 use Rattle.plans.proofs.Orders.{order-size}

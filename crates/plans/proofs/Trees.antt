@@ -15,7 +15,8 @@ use Rattle.network.specs.Lines.{network, Proper}
 use Rattle.network.specs.Chains.{Hop, Chain, Chain.here, Every}
 use Rattle.network.specs.Orders.{EachOnce}
 use Rattle.network.proofs.Chains.{hop-back, hop-in, chain-join, chain-hop, chain-back, chain-map, chain-keeps}
-use Rattle.plans.specs.Checking.{positionOf, addTree, treesOf}
+use Rattle.plans.specs.Orders.{positionOf}
+use Rattle.plans.specs.Checking.{addTree, treesOf}
 use Rattle.plans.specs.Published.{Arrow}
 use Rattle.plans.specs.Plans.{OfRank}
 use Rattle.plans.specs.Faults.{Beside, Tied, Earliest, StationGood}

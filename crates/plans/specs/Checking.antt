@@ -1,9 +1,9 @@
 -- The check of forests, in the words of the document's table. A plan is the lines' ranks and the rounds' orders.
 -- Assumes nothing.
-use Prim.Native.Nat.{ℕ, _+_, _*_, _/_}
+use Prim.Native.Nat.{ℕ, _+_, _/_}
 use mathlib.Core.Bool.{Bool, not, _&&_, _||_}
 use mathlib.Core.List.{List, [], _∷_, _++_}
-use lib.ListN.{length, getD, take, drop}
+use lib.ListN.{length, getD}
 use lib.Dec.{ltb, leb, eqb}
 use Rattle.laws.specs.Fold.{pick, upTo, firstFrom, anyFrom, lowest}
 use Rattle.kinds.specs.Answers.{Answer, Answer.given, _andThen_}
@@ -11,6 +11,7 @@ use Rattle.network.specs.Lines.{endOne, endTwo}
 use Rattle.limits.specs.Limits.{stationsJudged, lengthJudged, levelJudged, roomJudged}
 use Rattle.network.specs.Judging.{sameEnds, linesJudged}
 use Rattle.request.specs.Judging.{planShort}
+use Rattle.plans.specs.Orders.{orderOf, positionOf}
 use Rattle.plans.specs.Verdicts.{Kind.A, Kind.B, Kind.C, Kind.D, Kind.E, Verdict, Verdict.accepted, faultIf, _orElse_, isFaulty}
 
 -- In round i the lines in play are those of rank 0 or at least i.
@@ -74,10 +75,6 @@ stationVerdict lines ranks i order j = parentVerdict lines ranks i order j orEls
 unfoldable pub stationsVerdict : ℕ → List ℕ → List ℕ → ℕ → List ℕ → Verdict
 stationsVerdict n lines ranks i order = firstFrom isFaulty (stationVerdict lines ranks i order) accepted 0 n
 
--- The position of station v in the order; n where it has none.
-unfoldable pub positionOf : ℕ → List ℕ → ℕ → ℕ
-positionOf n order v = lowest (λ j. eqb (getD order j 0) v) n n
-
 -- One tree more is known: a station without an earlier neighbour in play is a root; another is in the tree of the earliest of them.
 -- A tree is named by its root's position.
 unfoldable pub addTree : List ℕ → List ℕ → ℕ → List ℕ → ℕ → List ℕ → List ℕ
@@ -107,10 +104,6 @@ roundVerdict n lines ranks i order =
     orderVerdict n i order
     orElse stationsVerdict n lines ranks i order
     orElse linesVerdict n lines ranks i order
-
--- The order of the round after i others, which is round i + 1: the n places that begin at i times n.
-unfoldable pub orderOf : ℕ → List ℕ → ℕ → List ℕ
-orderOf n orders i = take n (drop (i * n) orders)
 
 -- Each round in turn.
 unfoldable pub roundsVerdict : ℕ → ℕ → List ℕ → List ℕ → List ℕ → Verdict

@@ -9,7 +9,7 @@ use Rattle.network.specs.Lines.{endOne, endTwo, network}
 use Rattle.network.specs.Chains.{Hop, Chain, Every}
 use Rattle.network.specs.Orders.{EachOnce}
 use Rattle.plans.specs.Verdicts.{Kind, Kind.A, Kind.B, Kind.C, Kind.D, Kind.E}
-use Rattle.plans.specs.Checking.{orderOf}
+use Rattle.plans.specs.Orders.{orderOf}
 use Rattle.plans.specs.Plans.{InPlay, OfRank, RoundMeets}
 
 -- The entry at position j is a station, and new in the round.

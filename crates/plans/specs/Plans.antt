@@ -7,7 +7,7 @@ use mathlib.Core.List.{List}
 use lib.ListN.{length, getD}
 use Rattle.network.specs.Lines.{network}
 use Rattle.network.specs.Orders.{EachOnce}
-use Rattle.plans.specs.Checking.{positionOf, orderOf}
+use Rattle.plans.specs.Orders.{orderOf, positionOf}
 use Rattle.plans.specs.Published.{Greedy}
 
 -- Line p is in play in round i: its rank is 0 or at least i.

@@ -1,1 +1,1 @@
-pub mod Files
+pub mod Determined

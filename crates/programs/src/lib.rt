@@ -14,11 +14,11 @@ ghost use mathlib.Core.Path.{_≡_};
 ghost use mathlib.Core.Bool.{false};
 ghost use Prim.Native.Nat.{_*_, _/_, _≤_, _<_};
 ghost use lib.ListN.{length};
-ghost use lib.Dec.{ltb};
 ghost use Rattle.report.specs.Answers.{writtenAnswer, writtenOver};
 ghost use Rattle.weakness.specs.Standing.{weakAnswer};
 ghost use Rattle.programs.specs.Keep.{networkText, keepOutput};
 ghost use Rattle.programs.specs.Weak.{searchedText, weakOutput};
+ghost use Rattle.programs.specs.Texts.{TextAllows};
 
 // Prunes a network and writes what is kept, or why it is refused.
 fn keep_network(
@@ -78,8 +78,7 @@ fn keep_file(
 
 // What the program keep writes of the bytes of a file, from the front of `text`, which needs 524,416 bytes.
 pub fn keep_text(bytes: &[u8], text: &mut [u8]) -> Written
-    ensures answer { λ r. ⌜ r ≡ writtenAnswer (ltb (length (now (text .entry))) 524416) (keepOutput (now (bytes .entry))) ⌝ }
-    ensures text { λ _. ⌜ now (text .exit) ≡ writtenOver (ltb (length (now (text .entry))) 524416) (keepOutput (now (bytes .entry))) (now (text .entry)) ⌝ }
+    ensures allowed { λ r. ⌜ TextAllows 524416 (keepOutput (now (bytes .entry))) (now (text .entry)) r (now (text .exit)) ⌝ }
 {
     if text.len() < 524416 {
         return Written::TooShort;
@@ -135,8 +134,7 @@ fn weak_file(bytes: &[u8], lines: &mut [u16], starts: &mut [u16], text: &mut [u8
 
 // What the program weak writes of the bytes of a file, from the front of `text`, which needs 256 bytes.
 pub fn weak_text(bytes: &[u8], text: &mut [u8]) -> Written
-    ensures answer { λ r. ⌜ r ≡ writtenAnswer (ltb (length (now (text .entry))) 256) (weakOutput (now (bytes .entry))) ⌝ }
-    ensures text { λ _. ⌜ now (text .exit) ≡ writtenOver (ltb (length (now (text .entry))) 256) (weakOutput (now (bytes .entry))) (now (text .entry)) ⌝ }
+    ensures allowed { λ r. ⌜ TextAllows 256 (weakOutput (now (bytes .entry))) (now (text .entry)) r (now (text .exit)) ⌝ }
 {
     if text.len() < 256 {
         return Written::TooShort;

@@ -1,4 +1,5 @@
 pub mod Rounds
 pub mod Plans
+pub mod Answers
 pub mod RoundsFirst
 pub mod Determined

@@ -11,10 +11,10 @@ use scan::scan_round;
 ghost use mathlib.Core.Path.{_≡_};
 ghost use Prim.Native.Nat.{_*_, _/_, _≤_, _<_};
 ghost use lib.ListN.{length, replicate};
-ghost use Rattle.kept.specs.Kept.{keptCount, after};
+ghost use Rattle.kept.specs.Kept.{keptCount};
 ghost use Rattle.scan.specs.Rule.{Laid, Room};
-ghost use Rattle.prune.specs.Answers.{prunedAnswer};
-ghost use Rattle.prune.specs.Pruning.{rounds, allRounds, pruned, pruneAnswer};
+ghost use Rattle.prune.specs.Answers.{PruneAllows};
+ghost use Rattle.prune.specs.Pruning.{rounds, allRounds, pruned};
 ghost use Rattle.prune.specs.Sizes.{InOrder};
 
 // What pruning says: how many lines are kept, or why the input is refused.
@@ -123,9 +123,7 @@ pub fn prune(
     ranks: &mut [u8],
     orders: &mut [u16],
 ) -> Pruned
-    ensures answer { λ r. ⌜ prunedAnswer r ≡ pruneAnswer n (level .0) (now (lines .entry)) (now (starts .entry)) (length (now (ranks .entry))) (length (now (orders .entry))) ⌝ }
-    ensures ranks { λ r. ⌜ now (ranks .exit) ≡ after (prunedAnswer r) (pruned n (level .0) (now (lines .entry)) (now (starts .entry)) .ranks) (now (ranks .entry)) ⌝ }
-    ensures orders { λ r. ⌜ now (orders .exit) ≡ after (prunedAnswer r) (pruned n (level .0) (now (lines .entry)) (now (starts .entry)) .orders) (now (orders .entry)) ⌝ }
+    ensures allowed { λ r. ⌜ PruneAllows n (level .0) (now (lines .entry)) (now (starts .entry)) (now (ranks .entry)) (now (orders .entry)) r (now (ranks .exit)) (now (orders .exit)) ⌝ }
 {
     let short = is_plan_short(n, level, lines, ranks.len(), orders.len());
     let judged = judge_request(n, level, lines, starts, short);

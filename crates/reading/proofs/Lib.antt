@@ -2,4 +2,5 @@ pub mod Parts
 pub mod Records
 pub mod Files
 pub mod Contents
+pub mod Into
 pub mod Determined

@@ -13,8 +13,8 @@ ghost use lib.ListN.{length};
 ghost use Rattle.kinds.specs.Answers.{judgedAnswer};
 ghost use Rattle.reading.specs.Numbers.{numberAt};
 ghost use Rattle.reading.specs.Parts.{placed};
-ghost use Rattle.reading.specs.Reading.{lineEnds, lineNumbers, startNumbers, offsetAfter, lengthHere, recordJudged, orderAfter, recordCounted, recordAfter, endRead, recordsRead, fileRead, readAnswer, linesAfter, startsAfter};
-ghost use Rattle.reading.specs.Answers.{recordAnswer, readingAnswer};
+ghost use Rattle.reading.specs.Reading.{lineEnds, lineNumbers, startNumbers, offsetAfter, lengthHere, recordJudged, orderAfter, recordCounted, recordAfter, endRead, recordsRead, fileRead};
+ghost use Rattle.reading.specs.Answers.{recordAnswer, readingAnswer, ReadAllows};
 
 // Where in the file's order a record stands: before all others, before any RT, or after one.
 pub enum Order {
@@ -273,9 +273,7 @@ fn copy_starts(bytes: &[u8], counts: Counts, starts: &mut [u16])
 
 // Reads a network file: the room, then all its records, and only then the lent buffers are written.
 pub fn read(bytes: &[u8], lines: &mut [u16], starts: &mut [u16]) -> Reading
-    ensures answer { λ r. ⌜ readingAnswer r ≡ readAnswer (now (bytes .entry)) (now (lines .entry)) (now (starts .entry)) ⌝ }
-    ensures lines { λ _. ⌜ now (lines .exit) ≡ linesAfter (readAnswer (now (bytes .entry)) (now (lines .entry)) (now (starts .entry))) (now (bytes .entry)) (now (lines .entry)) ⌝ }
-    ensures starts { λ _. ⌜ now (starts .exit) ≡ startsAfter (readAnswer (now (bytes .entry)) (now (lines .entry)) (now (starts .entry))) (now (bytes .entry)) (now (starts .entry)) ⌝ }
+    ensures allowed { λ r. ⌜ ReadAllows (now (bytes .entry)) (now (lines .entry)) (now (starts .entry)) r (now (lines .exit)) (now (starts .exit)) ⌝ }
 {
     if lines.len() < 16384 {
         return Reading::Refused(Refusal::Room);

@@ -18,7 +18,8 @@ use Rattle.network.specs.Lines.{endOne, endTwo, network, Joins, Joins.forth, Jo
 use Rattle.network.specs.Chains.{Hop.by}
 use Rattle.network.specs.Orders.{EachOnce}
 use Rattle.network.specs.Faults.{Sound}
-use Rattle.plans.specs.Checking.{inPlay, ofRank, earliest, hasParent, hasOther, parentVerdict, otherVerdict, stationVerdict, stationsVerdict, positionOf, treesOf, lineVerdict, linesVerdict}
+use Rattle.plans.specs.Orders.{positionOf}
+use Rattle.plans.specs.Checking.{inPlay, ofRank, earliest, hasParent, hasOther, parentVerdict, otherVerdict, stationVerdict, stationsVerdict, treesOf, lineVerdict, linesVerdict}
 use Rattle.seen.specs.Tables.{Seen, seeBetween, seeLine, seeLines, Blank, plant, plantAll}
 use Rattle.rounds.specs.Tables.{Placed, seenVerdict, allSeenVerdict, treesVerdict, allTreesVerdict}
 use Rattle.plans.specs.Verdicts.{Verdict.accepted, isFaulty}

@@ -1,6 +1,7 @@
 -- THEOREM. The starred examples come out as the document says: the definitions compute to what it states.
 -- Assumes nothing.
 use mathlib.Core.Path.{refl}
+use native.Mathlib.Omega.{arith}
 use Rattle.laws.specs.Fold.{upTo, firstFrom}
 use Rattle.limits.specs.Limits.{stationsJudged, lengthJudged, levelJudged, roomJudged, weakLevelJudged}
 use Rattle.network.specs.Judging.{sameEnds, endsJudged, lineJudged, linesJudged, listJudged}
@@ -8,14 +9,16 @@ use Rattle.request.specs.Judging.{startCountJudged, startJudged, startsJudged, 
 use Rattle.scan.specs.Rule.{takeTo, takeLine, scanStation, ready, fresh, nextStation, scanAs, scanNext, allScanned, oneRound}
 use Rattle.kept.specs.Kept.{keptCount, copyLine, keptLines}
 use Rattle.prune.specs.Pruning.{nextRound, allRounds, pruned, pruneAnswer}
-use Rattle.plans.specs.Checking.{inPlay, ofRank, linked, rankVerdict, ranksVerdict, entryVerdict, orderVerdict, earliest, hasParent, hasOther, parentVerdict, otherVerdict, stationVerdict, stationsVerdict, positionOf, addTree, treesOf, lineVerdict, linesVerdict, roundVerdict, roundsVerdict, orderOf, planVerdict, planJudged, checkAnswer}
+use Rattle.plans.specs.Orders.{orderOf, positionOf}
+use Rattle.plans.specs.Checking.{inPlay, ofRank, linked, rankVerdict, ranksVerdict, entryVerdict, orderVerdict, earliest, hasParent, hasOther, parentVerdict, otherVerdict, stationVerdict, stationsVerdict, addTree, treesOf, lineVerdict, linesVerdict, roundVerdict, roundsVerdict, planVerdict, planJudged, checkAnswer}
 use Rattle.pieces.specs.Away.{isAway}
 use Rattle.pieces.specs.Pieces.{alone, merge, joinLine, piecesOf, onePiece}
 use Rattle.joined.specs.Asking.{awayJudged, allAwayJudged, askedJudged, joinedAnswer}
 use Rattle.unite.specs.Union.{addLine, united, listsJudged, unionJudged, unionShort, sizeAnswer, unionAnswer}
 use Rattle.weakness.specs.Standing.{lowestRemaining, lowestApart, without, withoutOnes, withoutSeconds, withoutTwos, weakSpot, weakJudged, weakAnswer}
+use Rattle.certificate.proofs.Seven.{seven-forests}
 use Rattle.starred.specs.Examples.{Right, starred}
 
 pub starred-right : Right starred
 unfolding upTo firstFrom sameEnds stationsJudged lengthJudged endsJudged lineJudged linesJudged listJudged levelJudged startCountJudged roomJudged startJudged startsJudged sizesJudged requestJudged takeTo takeLine scanStation ready fresh nextStation scanAs scanNext allScanned oneRound keptCount nextRound allRounds pruned planShort pruneAnswer copyLine keptLines inPlay ofRank linked rankVerdict ranksVerdict entryVerdict orderVerdict earliest hasParent hasOther parentVerdict otherVerdict stationVerdict stationsVerdict positionOf addTree treesOf lineVerdict linesVerdict roundVerdict roundsVerdict orderOf planVerdict planJudged checkAnswer isAway alone merge joinLine piecesOf onePiece awayJudged allAwayJudged askedJudged joinedAnswer addLine united listsJudged unionJudged unionShort sizeAnswer unionAnswer lowestRemaining lowestApart without withoutOnes withoutSeconds withoutTwos weakSpot weakLevelJudged weakJudged weakAnswer
-starred-right = (refl, (refl, (refl, (refl, (refl, (refl, (refl, (refl, (refl, (refl, (refl, (refl, (refl, (refl, (refl, (refl, (refl, (refl, (refl, (refl, tt))))))))))))))))))))
+starred-right = (refl, (refl, (refl, (refl, (refl, (refl, (refl, (refl, (refl, (refl, (seven-forests 1 (omega arith) (omega arith), (seven-forests 2 (omega arith) (omega arith), (refl, (refl, (refl, (refl, (refl, (refl, (refl, (refl, (refl, (refl, (refl, (refl, tt))))))))))))))))))))))))

@@ -6,14 +6,9 @@ use kinds::Level;
 use reading::Reading;
 use writing::Writing;
 ghost use mathlib.Core.Path.{_≡_};
-ghost use lib.ListN.{length};
-ghost use lib.Dec.{ltb};
-ghost use Rattle.reading.specs.Reading.{readAnswer, linesAfter, startsAfter};
-ghost use Rattle.writing.specs.Writing.{writeAnswer, bytesAfter};
-ghost use Rattle.report.specs.Answers.{writtenAnswer, writtenOver};
 ghost use Rattle.programs.specs.Keep.{keepOutput};
 ghost use Rattle.programs.specs.Weak.{weakOutput};
-ghost use Rattle.codes.specs.Codes.{numberSaid, placeSaid, listSaid, countSaid, stationsSaid, levelSaid, linesSaid, startsSaid, writtenNumber, writtenCount};
+ghost use Rattle.tapuhzel.specs.Calls.{readCall, writeCall, textCall};
 
 // Reads a network file into lent buffers, and says how many stations, lines and starts it has and its level.
 #[no_mangle]
@@ -28,15 +23,7 @@ pub extern "C" fn tapuhzel_read(
     place: &mut usize,
     list: &mut u8,
 ) -> u8
-    ensures number { λ r. ⌜ r ≡ numberSaid (readAnswer (now (bytes .entry)) (now (lines .entry)) (now (starts .entry))) ⌝ }
-    ensures lines { λ _. ⌜ now (lines .exit) ≡ linesAfter (readAnswer (now (bytes .entry)) (now (lines .entry)) (now (starts .entry))) (now (bytes .entry)) (now (lines .entry)) ⌝ }
-    ensures starts { λ _. ⌜ now (starts .exit) ≡ startsAfter (readAnswer (now (bytes .entry)) (now (lines .entry)) (now (starts .entry))) (now (bytes .entry)) (now (starts .entry)) ⌝ }
-    ensures n { λ _. ⌜ now (n .exit) ≡ stationsSaid (readAnswer (now (bytes .entry)) (now (lines .entry)) (now (starts .entry))) ⌝ }
-    ensures level { λ _. ⌜ now (level .exit) ≡ levelSaid (readAnswer (now (bytes .entry)) (now (lines .entry)) (now (starts .entry))) ⌝ }
-    ensures m { λ _. ⌜ now (m .exit) ≡ linesSaid (readAnswer (now (bytes .entry)) (now (lines .entry)) (now (starts .entry))) ⌝ }
-    ensures s { λ _. ⌜ now (s .exit) ≡ startsSaid (readAnswer (now (bytes .entry)) (now (lines .entry)) (now (starts .entry))) ⌝ }
-    ensures place { λ _. ⌜ now (place .exit) ≡ placeSaid (readAnswer (now (bytes .entry)) (now (lines .entry)) (now (starts .entry))) ⌝ }
-    ensures list { λ _. ⌜ now (list .exit) ≡ listSaid (readAnswer (now (bytes .entry)) (now (lines .entry)) (now (starts .entry))) ⌝ }
+    ensures call { λ r. ⌜ ((r, now (place .exit), now (list .exit)), now (n .exit), now (level .exit), now (m .exit), now (s .exit), now (lines .exit), now (starts .exit)) ≡ readCall (now (bytes .entry)) (now (lines .entry)) (now (starts .entry)) ⌝ }
 {
     let answer = reading::read(bytes, lines, starts);
     match answer {
@@ -69,11 +56,7 @@ pub extern "C" fn tapuhzel_write(
     place: &mut usize,
     list: &mut u8,
 ) -> u8
-    ensures number { λ r. ⌜ r ≡ numberSaid (writeAnswer n level (now (lines .entry)) (now (starts .entry)) (now (bytes .entry))) ⌝ }
-    ensures bytes { λ _. ⌜ now (bytes .exit) ≡ bytesAfter (writeAnswer n level (now (lines .entry)) (now (starts .entry)) (now (bytes .entry))) n level (now (lines .entry)) (now (starts .entry)) (now (bytes .entry)) ⌝ }
-    ensures count { λ _. ⌜ now (count .exit) ≡ countSaid (writeAnswer n level (now (lines .entry)) (now (starts .entry)) (now (bytes .entry))) ⌝ }
-    ensures place { λ _. ⌜ now (place .exit) ≡ placeSaid (writeAnswer n level (now (lines .entry)) (now (starts .entry)) (now (bytes .entry))) ⌝ }
-    ensures list { λ _. ⌜ now (list .exit) ≡ listSaid (writeAnswer n level (now (lines .entry)) (now (starts .entry)) (now (bytes .entry))) ⌝ }
+    ensures call { λ r. ⌜ ((r, now (place .exit), now (list .exit)), now (count .exit), now (bytes .exit)) ≡ writeCall n level (now (lines .entry)) (now (starts .entry)) (now (bytes .entry)) ⌝ }
 {
     let answer = writing::write(n, Level(level), lines, starts, bytes);
     match answer {
@@ -91,9 +74,7 @@ pub extern "C" fn tapuhzel_write(
 // What keep writes of a file's bytes.
 #[no_mangle]
 pub extern "C" fn tapuhzel_keep_text(bytes: &[u8], text: &mut [u8], count: &mut usize) -> u8
-    ensures number { λ r. ⌜ r ≡ writtenNumber (writtenAnswer (ltb (length (now (text .entry))) 524416) (keepOutput (now (bytes .entry)))) ⌝ }
-    ensures text { λ _. ⌜ now (text .exit) ≡ writtenOver (ltb (length (now (text .entry))) 524416) (keepOutput (now (bytes .entry))) (now (text .entry)) ⌝ }
-    ensures count { λ _. ⌜ now (count .exit) ≡ writtenCount (writtenAnswer (ltb (length (now (text .entry))) 524416) (keepOutput (now (bytes .entry)))) ⌝ }
+    ensures call { λ r. ⌜ (r, now (count .exit), now (text .exit)) ≡ textCall 524416 (keepOutput (now (bytes .entry))) (now (text .entry)) ⌝ }
 {
     let written = programs::keep_text(bytes, text);
     say_written(written, count)
@@ -102,9 +83,7 @@ pub extern "C" fn tapuhzel_keep_text(bytes: &[u8], text: &mut [u8], count: &mut 
 // What weak writes of a file's bytes.
 #[no_mangle]
 pub extern "C" fn tapuhzel_weak_text(bytes: &[u8], text: &mut [u8], count: &mut usize) -> u8
-    ensures number { λ r. ⌜ r ≡ writtenNumber (writtenAnswer (ltb (length (now (text .entry))) 256) (weakOutput (now (bytes .entry)))) ⌝ }
-    ensures text { λ _. ⌜ now (text .exit) ≡ writtenOver (ltb (length (now (text .entry))) 256) (weakOutput (now (bytes .entry))) (now (text .entry)) ⌝ }
-    ensures count { λ _. ⌜ now (count .exit) ≡ writtenCount (writtenAnswer (ltb (length (now (text .entry))) 256) (weakOutput (now (bytes .entry)))) ⌝ }
+    ensures call { λ r. ⌜ (r, now (count .exit), now (text .exit)) ≡ textCall 256 (weakOutput (now (bytes .entry))) (now (text .entry)) ⌝ }
 {
     let written = programs::weak_text(bytes, text);
     say_written(written, count)

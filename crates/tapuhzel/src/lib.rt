@@ -13,20 +13,12 @@ use kinds::Station;
 use prune::Pruned;
 use unite::United;
 ghost use mathlib.Core.Path.{_≡_};
-ghost use lib.ListN.{length};
-ghost use Rattle.network.specs.Judging.{listJudged};
-ghost use Rattle.joined.specs.Asking.{joinedAnswer};
-ghost use Rattle.kept.specs.Kept.{keptLines, copyAnswer, after};
-ghost use Rattle.unite.specs.Union.{united, unionAnswer};
-ghost use Rattle.prune.specs.Pruning.{pruned, pruneAnswer};
-ghost use Rattle.codes.specs.Codes.{numberSaid, placeSaid, listSaid, countSaid, joinedSaid};
+ghost use Rattle.tapuhzel.specs.Calls.{judgeCall, pruneCall, copyCall, uniteCall, joinedCall};
 
 // The judge of a network of n stations and a list of lines.
 #[no_mangle]
 pub extern "C" fn tapuhzel_judge(n: usize, lines: &[u16], place: &mut usize, list: &mut u8) -> u8
-    ensures number { λ r. ⌜ r ≡ numberSaid (listJudged 0 n (now (lines .entry))) ⌝ }
-    ensures place { λ _. ⌜ now (place .exit) ≡ placeSaid (listJudged 0 n (now (lines .entry))) ⌝ }
-    ensures list { λ _. ⌜ now (list .exit) ≡ listSaid (listJudged 0 n (now (lines .entry))) ⌝ }
+    ensures call { λ r. ⌜ (r, now (place .exit), now (list .exit)) ≡ judgeCall n (now (lines .entry)) ⌝ }
 {
     let judged = network::judge(n, lines);
     if let Judged::Refused(refusal) = judged {
@@ -48,12 +40,7 @@ pub extern "C" fn tapuhzel_prune(
     place: &mut usize,
     list: &mut u8,
 ) -> u8
-    ensures number { λ r. ⌜ r ≡ numberSaid (pruneAnswer n level (now (lines .entry)) (now (starts .entry)) (length (now (ranks .entry))) (length (now (orders .entry)))) ⌝ }
-    ensures ranks { λ _. ⌜ now (ranks .exit) ≡ after (pruneAnswer n level (now (lines .entry)) (now (starts .entry)) (length (now (ranks .entry))) (length (now (orders .entry)))) (pruned n level (now (lines .entry)) (now (starts .entry)) .ranks) (now (ranks .entry)) ⌝ }
-    ensures orders { λ _. ⌜ now (orders .exit) ≡ after (pruneAnswer n level (now (lines .entry)) (now (starts .entry)) (length (now (ranks .entry))) (length (now (orders .entry)))) (pruned n level (now (lines .entry)) (now (starts .entry)) .orders) (now (orders .entry)) ⌝ }
-    ensures kept { λ _. ⌜ now (kept .exit) ≡ countSaid (pruneAnswer n level (now (lines .entry)) (now (starts .entry)) (length (now (ranks .entry))) (length (now (orders .entry)))) ⌝ }
-    ensures place { λ _. ⌜ now (place .exit) ≡ placeSaid (pruneAnswer n level (now (lines .entry)) (now (starts .entry)) (length (now (ranks .entry))) (length (now (orders .entry)))) ⌝ }
-    ensures list { λ _. ⌜ now (list .exit) ≡ listSaid (pruneAnswer n level (now (lines .entry)) (now (starts .entry)) (length (now (ranks .entry))) (length (now (orders .entry)))) ⌝ }
+    ensures call { λ r. ⌜ ((r, now (place .exit), now (list .exit)), now (kept .exit), now (ranks .exit), now (orders .exit)) ≡ pruneCall n level (now (lines .entry)) (now (starts .entry)) (now (ranks .entry)) (now (orders .entry)) ⌝ }
 {
     let answer = prune::prune(n, Level(level), lines, starts, ranks, orders);
     match answer {
@@ -78,11 +65,7 @@ pub extern "C" fn tapuhzel_copy(
     place: &mut usize,
     list: &mut u8,
 ) -> u8
-    ensures number { λ r. ⌜ r ≡ numberSaid (copyAnswer (now (lines .entry)) (now (ranks .entry)) (length (now (room .entry)))) ⌝ }
-    ensures room { λ _. ⌜ now (room .exit) ≡ after (copyAnswer (now (lines .entry)) (now (ranks .entry)) (length (now (room .entry)))) (keptLines (now (lines .entry)) (now (ranks .entry))) (now (room .entry)) ⌝ }
-    ensures count { λ _. ⌜ now (count .exit) ≡ countSaid (copyAnswer (now (lines .entry)) (now (ranks .entry)) (length (now (room .entry)))) ⌝ }
-    ensures place { λ _. ⌜ now (place .exit) ≡ placeSaid (copyAnswer (now (lines .entry)) (now (ranks .entry)) (length (now (room .entry)))) ⌝ }
-    ensures list { λ _. ⌜ now (list .exit) ≡ listSaid (copyAnswer (now (lines .entry)) (now (ranks .entry)) (length (now (room .entry)))) ⌝ }
+    ensures call { λ r. ⌜ ((r, now (place .exit), now (list .exit)), now (count .exit), now (room .exit)) ≡ copyCall (now (lines .entry)) (now (ranks .entry)) (now (room .entry)) ⌝ }
 {
     let answer = kept::copy_kept(lines, ranks, room);
     match answer {
@@ -108,11 +91,7 @@ pub extern "C" fn tapuhzel_unite(
     place: &mut usize,
     list: &mut u8,
 ) -> u8
-    ensures number { λ r. ⌜ r ≡ numberSaid (unionAnswer n (now (first .entry)) (now (second .entry)) (length (now (room .entry)))) ⌝ }
-    ensures room { λ _. ⌜ now (room .exit) ≡ after (unionAnswer n (now (first .entry)) (now (second .entry)) (length (now (room .entry)))) (united (now (first .entry)) (now (second .entry))) (now (room .entry)) ⌝ }
-    ensures count { λ _. ⌜ now (count .exit) ≡ countSaid (unionAnswer n (now (first .entry)) (now (second .entry)) (length (now (room .entry)))) ⌝ }
-    ensures place { λ _. ⌜ now (place .exit) ≡ placeSaid (unionAnswer n (now (first .entry)) (now (second .entry)) (length (now (room .entry)))) ⌝ }
-    ensures list { λ _. ⌜ now (list .exit) ≡ listSaid (unionAnswer n (now (first .entry)) (now (second .entry)) (length (now (room .entry)))) ⌝ }
+    ensures call { λ r. ⌜ ((r, now (place .exit), now (list .exit)), now (count .exit), now (room .exit)) ≡ uniteCall n (now (first .entry)) (now (second .entry)) (now (room .entry)) ⌝ }
 {
     let answer = unite::unite(n, first, second, room);
     match answer {
@@ -139,10 +118,7 @@ pub extern "C" fn tapuhzel_joined(
     place: &mut usize,
     list: &mut u8,
 ) -> u8
-    ensures number { λ r. ⌜ r ≡ numberSaid (joinedAnswer n (now (lines .entry)) (now (away .entry)) one two) ⌝ }
-    ensures joined { λ _. ⌜ now (joined .exit) ≡ joinedSaid (joinedAnswer n (now (lines .entry)) (now (away .entry)) one two) ⌝ }
-    ensures place { λ _. ⌜ now (place .exit) ≡ placeSaid (joinedAnswer n (now (lines .entry)) (now (away .entry)) one two) ⌝ }
-    ensures list { λ _. ⌜ now (list .exit) ≡ listSaid (joinedAnswer n (now (lines .entry)) (now (away .entry)) one two) ⌝ }
+    ensures call { λ r. ⌜ ((r, now (place .exit), now (list .exit)), now (joined .exit)) ≡ joinedCall n (now (lines .entry)) (now (away .entry)) one two ⌝ }
 {
     let answer = joined::joined(n, lines, away, Station(one), Station(two));
     match answer {

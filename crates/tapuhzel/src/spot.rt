@@ -6,9 +6,7 @@ use codes::say_taken;
 use kinds::Level;
 use weakness::Searched;
 ghost use mathlib.Core.Path.{_≡_};
-ghost use lib.ListN.{length, getD};
-ghost use Rattle.weakness.specs.Standing.{weakAnswer};
-ghost use Rattle.codes.specs.Codes.{numberSaid, placeSaid, listSaid, weakSaid, spotSaid, oneSaid, twoSaid};
+ghost use Rattle.tapuhzel.specs.Calls.{weakCall};
 
 // The weak spot of a network at a level from 1 to 3.
 #[no_mangle]
@@ -25,15 +23,7 @@ pub extern "C" fn tapuhzel_weak(
     place: &mut usize,
     list: &mut u8,
 ) -> u8
-    ensures number { λ r. ⌜ r ≡ numberSaid (weakAnswer n level (now (lines .entry))) ⌝ }
-    ensures weak { λ _. ⌜ now (weak .exit) ≡ weakSaid (weakAnswer n level (now (lines .entry))) ⌝ }
-    ensures size { λ _. ⌜ now (size .exit) ≡ length (spotSaid (weakAnswer n level (now (lines .entry)))) ⌝ }
-    ensures first { λ _. ⌜ now (first .exit) ≡ getD (spotSaid (weakAnswer n level (now (lines .entry)))) 0 0 ⌝ }
-    ensures second { λ _. ⌜ now (second .exit) ≡ getD (spotSaid (weakAnswer n level (now (lines .entry)))) 1 0 ⌝ }
-    ensures one { λ _. ⌜ now (one .exit) ≡ oneSaid (weakAnswer n level (now (lines .entry))) ⌝ }
-    ensures two { λ _. ⌜ now (two .exit) ≡ twoSaid (weakAnswer n level (now (lines .entry))) ⌝ }
-    ensures place { λ _. ⌜ now (place .exit) ≡ placeSaid (weakAnswer n level (now (lines .entry))) ⌝ }
-    ensures list { λ _. ⌜ now (list .exit) ≡ listSaid (weakAnswer n level (now (lines .entry))) ⌝ }
+    ensures call { λ r. ⌜ ((r, now (place .exit), now (list .exit)), now (weak .exit), now (size .exit), now (first .exit), now (second .exit), now (one .exit), now (two .exit)) ≡ weakCall n level (now (lines .entry)) ⌝ }
 {
     let answer = weakness::find_weak_spot(n, Level(level), lines);
     match answer {

@@ -6,8 +6,7 @@ use codes::say_verdict;
 use forests::Checked;
 use kinds::Level;
 ghost use mathlib.Core.Path.{_≡_};
-ghost use Rattle.plans.specs.Checking.{checkAnswer};
-ghost use Rattle.codes.specs.Codes.{numberSaid, placeSaid, listSaid, kindSaid, roundSaid, faultPlaceSaid};
+ghost use Rattle.tapuhzel.specs.Calls.{checkCall};
 
 // The check of forests, over ranks and orders from anywhere.
 #[no_mangle]
@@ -23,12 +22,7 @@ pub extern "C" fn tapuhzel_check(
     place: &mut usize,
     list: &mut u8,
 ) -> u8
-    ensures number { λ r. ⌜ r ≡ numberSaid (checkAnswer n level (now (lines .entry)) (now (ranks .entry)) (now (orders .entry))) ⌝ }
-    ensures kind { λ _. ⌜ now (kind .exit) ≡ kindSaid (checkAnswer n level (now (lines .entry)) (now (ranks .entry)) (now (orders .entry))) ⌝ }
-    ensures round { λ _. ⌜ now (round .exit) ≡ roundSaid (checkAnswer n level (now (lines .entry)) (now (ranks .entry)) (now (orders .entry))) ⌝ }
-    ensures at { λ _. ⌜ now (at .exit) ≡ faultPlaceSaid (checkAnswer n level (now (lines .entry)) (now (ranks .entry)) (now (orders .entry))) ⌝ }
-    ensures place { λ _. ⌜ now (place .exit) ≡ placeSaid (checkAnswer n level (now (lines .entry)) (now (ranks .entry)) (now (orders .entry))) ⌝ }
-    ensures list { λ _. ⌜ now (list .exit) ≡ listSaid (checkAnswer n level (now (lines .entry)) (now (ranks .entry)) (now (orders .entry))) ⌝ }
+    ensures call { λ r. ⌜ ((r, now (place .exit), now (list .exit)), now (kind .exit), now (round .exit), now (at .exit)) ≡ checkCall n level (now (lines .entry)) (now (ranks .entry)) (now (orders .entry)) ⌝ }
 {
     let answer = forests::check(n, Level(level), lines, ranks, orders);
     match answer {

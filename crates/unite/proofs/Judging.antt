@@ -14,14 +14,8 @@ use Rattle.network.specs.Faults.{Sound}
 use Rattle.limits.specs.Limits.{stationsJudged, lengthJudged, roomJudged}
 use Rattle.network.specs.Judging.{linesJudged}
 use Rattle.network.proofs.Sound.{within-taken, lines-only, parts-sound, sound-taken}
+use Rattle.unite.specs.Unites.{Unites}
 use Rattle.unite.specs.Union.{united, listsJudged, unionJudged, unionShort, sizeAnswer, unionAnswer}
-
--- What is known of a union that is not refused.
-pub record Unites (n : ℕ) (first second : List ℕ) (room : ℕ) : Type 0 where
-  pub one : Sound n first
-  pub two : Sound n second
-  pub few : length (united first second) ≤ 16384
-  pub fits : length (united first second) ≤ room
 
 -- The two lists are sound just where they are not refused.
 module _ (n : ℕ) (first second : List ℕ) where

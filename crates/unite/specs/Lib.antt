@@ -1,3 +1,4 @@
 pub mod Union
+pub mod Unites
 pub mod Answers
 pub mod Adding

@@ -21,8 +21,8 @@ ghost use Rattle.network.specs.Lines.{endOne, endTwo, network, Proper};
 ghost use Rattle.network.specs.Pairs.{pairNumber, Remembers};
 ghost use Rattle.kept.specs.Kept.{after};
 ghost use Rattle.kept.specs.Filled.{Filled};
-ghost use Rattle.unite.specs.Union.{united, listsJudged, sizeAnswer, unionAnswer};
-ghost use Rattle.unite.specs.Answers.{unitedAnswer};
+ghost use Rattle.unite.specs.Union.{united, listsJudged, sizeAnswer};
+ghost use Rattle.unite.specs.Answers.{unitedAnswer, UniteAllows};
 ghost use Rattle.unite.specs.Adding.{isNew, addNew};
 
 // What uniting says: how many lines it wrote, or why it refuses.
@@ -165,8 +165,7 @@ fn unite_lists(first: &[u16], second: &[u16], room: &mut [u16]) -> United
 
 // Unites two line lists over n stations: the first list, then those lines of the second that the first lacks, in order and as written there.
 pub fn unite(n: usize, first: &[u16], second: &[u16], room: &mut [u16]) -> United
-    ensures answer { λ r. ⌜ unitedAnswer r ≡ unionAnswer n (now (first .entry)) (now (second .entry)) (length (now (room .entry))) ⌝ }
-    ensures room { λ r. ⌜ now (room .exit) ≡ after (unitedAnswer r) (united (now (first .entry)) (now (second .entry))) (now (room .entry)) ⌝ }
+    ensures allowed { λ r. ⌜ UniteAllows n (now (first .entry)) (now (second .entry)) (now (room .entry)) r (now (room .exit)) ⌝ }
 {
     let judged = judge_lists(n, first, second);
     if let Judged::Refused(refusal) = judged {

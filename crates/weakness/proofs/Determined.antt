@@ -1,10 +1,11 @@
--- THEOREM. Two answers that are the same in the document's numbers are the same.
+-- THEOREM. Two results that the search's contract allows are equal.
 -- Assumes nothing.
-
-use mathlib.Core.Path.{_≡_, refl, ap, ap₂}
+use mathlib.Core.Path.{_≡_, refl, sym, ap, ap₂, _∙_}
+use mathlib.Core.List.{List}
 use Prim.Native.Nat.{ℕ}
 use Rattle.kinds.proofs.Determined.{refusal-determined}
 use Rattle.kinds.specs.declared.Station.{Station}
+use Rattle.weakness.specs.Standing.{weakAnswer}
 use Rattle.weakness.specs.Answers.{spotStations, foundStanding, searchedAnswer}
 use Rattle.weakness.specs.declared.Spot.{Spot}
 use Rattle.weakness.specs.declared.Spot.the-variants.{Empty, One, Two}
@@ -40,8 +41,12 @@ found-determined (Weak v) (Weak w) e =
     let b : v .two .0 ≡ w .two .0 = cc in
     ap Weak (rw (s, a, b) refl)
 
-pub searched-determined : (x y : Searched) → searchedAnswer x ≡ searchedAnswer y → x ≡ y
+-- two answers that are the same in the document's numbers are the same
+searched-determined : (x y : Searched) → searchedAnswer x ≡ searchedAnswer y → x ≡ y
 searched-determined (Decided x) (Decided y) e = ap Decided (found-determined x y (cc))
 searched-determined (Decided x) (Refused r) e = cc
 searched-determined (Refused r) (Decided y) e = cc
 searched-determined (Refused r) (Refused s) e = ap Refused (refusal-determined r s (cc) (cc) (cc))
+
+pub search-once : (n k : ℕ) (lines : List ℕ) {r s : Searched} → searchedAnswer r ≡ weakAnswer n k lines → searchedAnswer s ≡ weakAnswer n k lines → r ≡ s
+search-once n k lines {r} {s} a b = searched-determined r s (a ∙ sym b)

@@ -1,7 +1,6 @@
--- What is known of a search that is not refused: the list is sound, and the level is 1 to 3; and the reverse.
+-- A network is taken just when it may be searched.
 -- Assumes nothing.
-
-use Prim.Native.Nat.{ℕ, _≤_}
+use Prim.Native.Nat.{ℕ}
 use mathlib.Core.Path.{_≡_, sym, ap, _∙_}
 use mathlib.Core.List.{List}
 use borrow.Author.Tests.{le-ltb}
@@ -9,18 +8,13 @@ use Rattle.kinds.specs.Answers.{taken, _andThen_, isRefused}
 use Rattle.kinds.proofs.Answers.{then-both}
 use Rattle.limits.specs.Limits.{stationsJudged, lengthJudged, weakLevelJudged}
 use Rattle.network.specs.Judging.{linesJudged}
-use Rattle.network.specs.Faults.{Sound}
 use Rattle.limits.proofs.Limits.{weak-level-good}
 use Rattle.network.proofs.Sound.{within-taken, lines-only, parts-sound, sound-taken}
 use Rattle.weakness.specs.Standing.{weakJudged}
-
-pub record Searchable (n k : ℕ) (lines : List ℕ) : Type 0 where
-  pub sound : Sound n lines
-  pub some : 1 ≤ k
-  pub most : k ≤ 3
+use Rattle.weakness.specs.Parting.{Searchable}
 
 module _ (n k : ℕ) (lines : List ℕ) where
-  -- THEOREM. What is taken can be searched.
+  -- THEOREM. What is taken may be searched.
   pub weak-good : weakJudged n k lines ≡ taken → Searchable n k lines
   unfolding weakJudged
   weak-good e =
@@ -33,7 +27,7 @@ module _ (n k : ℕ) (lines : List ℕ) where
         most = weak-level-good k v .1;
       }
 
-  -- THEOREM. What can be searched is taken.
+  -- THEOREM. What may be searched is taken.
   pub good-weak : Searchable n k lines → weakJudged n k lines ≡ taken
   unfolding weakJudged weakLevelJudged
   good-weak g =

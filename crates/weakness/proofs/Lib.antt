@@ -5,5 +5,8 @@ pub mod Agree
 pub mod Pruned
 pub mod Judging
 pub mod Tries
+pub mod Spots
 pub mod Whole
+pub mod Answers
 pub mod Determined
+pub mod Cutting

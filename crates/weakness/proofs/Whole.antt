@@ -1,4 +1,4 @@
--- THEOREMS. A network stands at level k exactly when no set of fewer than k stations parts it; and the answer is otherwise its weak spot.
+-- THEOREMS. A network stands at level k exactly when no set of fewer than k stations parts it; otherwise its weak spot is found, and no other.
 -- Assumes nothing.
 
 -- ── one set of stations ──
@@ -16,17 +16,18 @@ use lib.ListN.{length}
 use Rattle.laws.specs.Fold.{firstFrom, lowest}
 use Rattle.laws.specs.Count.{count, bit}
 use Rattle.laws.proofs.Fold.{FoundAt, FoundNone, first-cases}
-use Rattle.network.specs.Chains.{Chain, Chain.here, Chain.step}
+use Rattle.network.proofs.Chains.{chain-stays}
 use Rattle.network.specs.Faults.{Sound}
-use Rattle.pieces.specs.Joined.{Remains, Joined}
+use Rattle.pieces.specs.Joined.{Remains, Joined, Whole}
 use Rattle.pieces.specs.Away.{isAway, Rising}
 use Rattle.pieces.specs.Pieces.{onePiece}
 use Rattle.pieces.proofs.Away.{away-stands}
 use Rattle.pieces.proofs.Chains.{joined-back, joined-then, one-piece-joined, joined-one-piece}
 use Rattle.weakness.specs.Standing.{Standing, Standing.stands, Standing.weak, isWeak, lowestRemaining, lowestApart, without, weakSpot}
-use Rattle.weakness.specs.Parting.{Whole, Parts, IsWeakSpot}
+use Rattle.weakness.specs.Parting.{Parts, StandsAt, IsWeakSpot}
 use Rattle.weakness.proofs.Looking.{is-one, is-two}
 use Rattle.weakness.proofs.Remaining.{lowest-remains, none-few, one-few, two-few}
+use Rattle.weakness.proofs.Spots.{one-weak-spot}
 use Rattle.weakness.proofs.Tries.{none-rising, one-rising, two-rising, rising-one, FirstWeak, NoneWeak, tries}
 
 and-false : (b c : Bool) → (not b && not c) ≡ false → b ≡ false → c ≡ true
@@ -166,11 +167,7 @@ spot-few n (v ∷ (w ∷ (x ∷ t))) h = absurd (omega arith)
 
 -- ── the same set, told in two ways ──
 
-chain-stays : {hop : ℕ → ℕ → Type 0} {stays stays′ : ℕ → Type 0} {u v : ℕ} → ((x : ℕ) → stays x → stays′ x) → Chain hop stays u v → Chain hop stays′ u v
-chain-stays f (here s) = here (f _ s)
-chain-stays f (step s h c) = step (f _ s) h (chain-stays f c)
-
-whole-same : {n : ℕ} {lines : List ℕ} {away other : ℕ → Bool} → ((u : ℕ) → u < n → away u ≡ other u) → Whole n lines other → Whole n lines away
+pub whole-same : {n : ℕ} {lines : List ℕ} {away other : ℕ → Bool} → ((u : ℕ) → u < n → away u ≡ other u) → Whole n lines other → Whole n lines away
 whole-same {n} {lines} {away} {other} same w =
     record {
       joined = λ u v s t.
@@ -204,30 +201,38 @@ module _ (n k : ℕ) (lines : List ℕ) (sound : Sound n lines) (some : 1 ≤ k)
           record { tried = r .tried; parts = p; none-earlier = λ s t f. sturdy-whole n lines sound s (r .earlier s t f) } in
           rw (x, y, z) at found
 
-  -- THEOREM. Where the answer is a weak spot, it is the weak spot of the network.
-  pub weak-spot : {spot : List ℕ} {a b : ℕ} → weakSpot n k lines ≡ weak spot a b → IsWeakSpot n k lines spot a b
-  weak-spot {spot} {a} {b} e = go (tries n lines k some most)
-    where
-      go : FirstWeak n lines k ⊎ NoneWeak n lines k → IsWeakSpot n k lines spot a b
-      go (inl r) = first-weak r e
-      go (inr r) = absurd (true≢false (ap isWeak (sym e ∙ r .is)))
+  found-spot : {spot : List ℕ} {a b : ℕ} → weakSpot n k lines ≡ weak spot a b → FirstWeak n lines k ⊎ NoneWeak n lines k → IsWeakSpot n k lines spot a b
+  found-spot e (inl r) = first-weak r e
+  found-spot e (inr r) = absurd (true≢false (ap isWeak (sym e ∙ r .is)))
 
   -- THEOREM. A network stands exactly when no set of fewer than k stations parts any two remaining ones.
-  pub stands-whole : (weakSpot n k lines ≡ stands) ↔ ((away : ℕ → Bool) → count n away < k → Whole n lines away)
+  pub stands-whole : (weakSpot n k lines ≡ stands) ↔ StandsAt n k lines
   stands-whole = (λ e. forth e (tries n lines k some most), λ h. back h (tries n lines k some most))
     where
-      forth : weakSpot n k lines ≡ stands → FirstWeak n lines k ⊎ NoneWeak n lines k → (away : ℕ → Bool) → count n away < k → Whole n lines away
+      forth : weakSpot n k lines ≡ stands → FirstWeak n lines k ⊎ NoneWeak n lines k → StandsAt n k lines
       forth e (inl r) = absurd (true≢false (sym (r .parts) ∙ (ap isWeak (sym (r .is)) ∙ ap isWeak e)))
-      forth e (inr r) = none-whole r
+      forth e (inr r) = record { whole = none-whole r }
 
-      parted : ((away : ℕ → Bool) → count n away < k → Whole n lines away) → (r : FirstWeak n lines k)
+      parted : StandsAt n k lines → (r : FirstWeak n lines k)
           → ((without n lines (r .spot) ≡ stands) × Whole n lines (isAway (r .spot)))
           ⊎ ((c d : ℕ) × (without n lines (r .spot) ≡ weak (r .spot) c d) × Parts n lines (isAway (r .spot)) c d)
           → ⊥
       parted h r (inl w) = true≢false (sym (r .parts) ∙ ap isWeak (w .0))
       parted h r (inr (c, d, f, p)) =
-          p .apart (h (isAway (r .spot)) (omega (arith, r .tried .few, spot-few n (r .spot) (omega (arith, r .tried .few)))) .joined c d (p .first) (p .second))
+          p .apart (h .whole (isAway (r .spot)) (omega (arith, r .tried .few, spot-few n (r .spot) (omega (arith, r .tried .few)))) .joined c d (p .first) (p .second))
 
-      back : ((away : ℕ → Bool) → count n away < k → Whole n lines away) → FirstWeak n lines k ⊎ NoneWeak n lines k → weakSpot n k lines ≡ stands
+      back : StandsAt n k lines → FirstWeak n lines k ⊎ NoneWeak n lines k → weakSpot n k lines ≡ stands
       back h (inl r) = absurd (parted h r (without-cases n lines sound (r .spot)))
       back h (inr r) = r .is
+
+  -- THEOREM. A weak spot is found exactly where it is the weak spot of the network.
+  pub weak-spot : {spot : List ℕ} {a b : ℕ} → (weakSpot n k lines ≡ weak spot a b) ↔ IsWeakSpot n k lines spot a b
+  weak-spot {spot} {a} {b} = (λ e. found-spot e (tries n lines k some most), λ W. back W (weakSpot n k lines) refl)
+    where
+      back : IsWeakSpot n k lines spot a b → (found : Standing) → weakSpot n k lines ≡ found → weakSpot n k lines ≡ weak spot a b
+      back W stands e =
+          let few : count n (isAway spot) < k = omega (arith, W .tried .few, spot-few n spot (omega (arith, W .tried .few))) in
+          absurd (W .parts .apart (stands-whole .0 e .whole (isAway spot) few .joined a b (W .parts .first) (W .parts .second)))
+      back W (weak other c d) e =
+          let (x, y, z) = one-weak-spot most (found-spot e (tries n lines k some most)) W in
+          e ∙ rw (x, y, z)

@@ -1,16 +1,24 @@
--- What the search's answers mean: a network that stays whole, a set that parts it, and the first such set.
+-- What may be searched, and what the search's answers mean: a network that stands, and the first set that parts one that does not.
 -- Assumes nothing.
 use Prim.Native.Nat.{ℕ, _<_, _≤_}
 use mathlib.Core.Path.{_≡_}
 use mathlib.Core.Bool.{Bool}
 use mathlib.Core.List.{List}
 use lib.ListN.{length, getD}
-use Rattle.pieces.specs.Joined.{Remains, Joined}
+use Rattle.laws.specs.Count.{count}
+use Rattle.network.specs.Faults.{Sound}
+use Rattle.pieces.specs.Joined.{Remains, Joined, Whole}
 use Rattle.pieces.specs.Away.{isAway, Rising}
 
--- Any two remaining stations are joined.
-pub record Whole (n : ℕ) (lines : List ℕ) (away : ℕ → Bool) : Type 0 where
-  pub joined : (u v : ℕ) → Remains n away u → Remains n away v → Joined n lines away u v
+-- A sound list, and a level from 1 to 3.
+pub record Searchable (n k : ℕ) (lines : List ℕ) : Type 0 where
+  pub sound : Sound n lines
+  pub some : 1 ≤ k
+  pub most : k ≤ 3
+
+-- "No set of fewer than k stations, taken away, leaves two stations not joined."
+pub record StandsAt (n k : ℕ) (lines : List ℕ) : Type 0 where
+  pub whole : (away : ℕ → Bool) → count n away < k → Whole n lines away
 
 -- a is the lowest remaining station, and b the lowest one that is not joined to it.
 pub record Parts (n : ℕ) (lines : List ℕ) (away : ℕ → Bool) (a b : ℕ) : Type 0 where

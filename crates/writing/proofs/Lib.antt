@@ -2,4 +2,5 @@ pub mod Slices
 pub mod Written
 pub mod WrittenRead
 pub mod ReadWritten
+pub mod Calls
 pub mod Determined

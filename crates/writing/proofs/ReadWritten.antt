@@ -41,7 +41,7 @@ number-gathered f size same count j i at h l e =
 
 -- The number i bytes into each record of the file of a network.
 module _ (n k : ℕ) (lines starts : List ℕ) where
-  length-file : length (fileBytes n k lines starts) ≡ fileLength lines starts
+  pub length-file : length (fileBytes n k lines starts) ≡ fileLength lines starts
   unfolding fileBytes
   length-file = omega (arith, length-append (upToStarts n k lines starts) (oneRecord markEN (length lines / 2)), length-to-starts n k lines starts)
 

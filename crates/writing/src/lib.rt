@@ -12,8 +12,8 @@ ghost use lib.Dec.{ltb};
 ghost use Rattle.reading.specs.Numbers.{numberBytes};
 ghost use Rattle.reading.specs.Parts.{gathered, placed};
 ghost use Rattle.reading.specs.Reading.{offsetAfter};
-ghost use Rattle.writing.specs.Writing.{oneRecord, twoRecord, lineRecord, startRecord, fileBytes, fileLength, writeAnswer, bytesAfter};
-ghost use Rattle.writing.specs.Answers.{writingAnswer};
+ghost use Rattle.writing.specs.Writing.{oneRecord, twoRecord, lineRecord, startRecord, fileBytes, fileLength};
+ghost use Rattle.writing.specs.Answers.{WriteAllows};
 
 // What writing answers: how many bytes it wrote, or the first refusal that holds.
 pub enum Writing {
@@ -117,8 +117,7 @@ fn write_file(n: usize, level: Level, lines: &[u16], starts: &[u16], bytes: &mut
 
 // Writes a network as a file: it refuses as pruning does, with the byte buffer as the only room.
 pub fn write(n: usize, level: Level, lines: &[u16], starts: &[u16], bytes: &mut [u8]) -> Writing
-    ensures answer { λ r. ⌜ writingAnswer r ≡ writeAnswer n (level .0) (now (lines .entry)) (now (starts .entry)) (now (bytes .entry)) ⌝ }
-    ensures bytes { λ _. ⌜ now (bytes .exit) ≡ bytesAfter (writeAnswer n (level .0) (now (lines .entry)) (now (starts .entry)) (now (bytes .entry))) n (level .0) (now (lines .entry)) (now (starts .entry)) (now (bytes .entry)) ⌝ }
+    ensures allowed { λ r. ⌜ WriteAllows n (level .0) (now (lines .entry)) (now (starts .entry)) (now (bytes .entry)) r (now (bytes .exit)) ⌝ }
 {
     let counts = Counts {
         lines: lines.len() / 2,

@@ -1,7 +1,6 @@
 -- `forests::check` meets its contract. What is not refused is a sound list with room for a plan, so it can be looked at. Assumes nothing.
 use Rattle.plans.proofs.Judging.{plan-good}
 use Rattle.plans.specs.Checking.{planJudged, checkAnswer}
-use Rattle.request.proofs.Room.{room-enough}
 use Rattle.request.specs.Judging.{planShort}
 use Rattle.kinds.specs.Answers.{taken, refusalAnswer, Answer.given}
 use lib.ListN.{length}
@@ -33,8 +32,8 @@ check-plan-requires : tie.Need-check-plan-requires
 check-plan-requires c κs =
     let a = c .before .before .before .before .before .before .before .args in
     let e : planJudged (a .n) (a .level .0) (a .lines .now) (planShort (a .n) (a .level .0) (a .lines .now) (length (a .ranks .now)) (length (a .orders .now))) ≡ taken = rw (← c .before .before .before .is-plan-short .ensures) (sym (c .before .before .judge-plan .ensures) ∙ rw (c .enum-told .given .1)) in
-    let g = plan-good (a .n) (a .level .0) (a .lines .now) (planShort (a .n) (a .level .0) (a .lines .now) (length (a .ranks .now)) (length (a .orders .now))) (rw e) in
-    (g .sound, g .most, room-enough (a .n) (a .level .0) (a .lines .now) (length (a .ranks .now)) (length (a .orders .now)) (g .room) .1)
+    let g = plan-good (a .n) (a .level .0) (a .lines .now) (a .ranks .now) (a .orders .now) (rw e) in
+    (g .sound, g .most, g .ordered)
 
 returns-2 : tie.Need-returns-2
 unfolding checkAnswer

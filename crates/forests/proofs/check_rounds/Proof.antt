@@ -2,7 +2,8 @@
 -- look at from i on is the verdict. The measure is k - i. Assumes nothing.
 use Rattle.plans.specs.Verdicts.{Verdict, Verdict.accepted, isFaulty}
 use Rattle.rounds.specs.Tables.{Room}
-use Rattle.plans.specs.Checking.{roundVerdict, roundsVerdict, orderOf}
+use Rattle.plans.specs.Orders.{orderOf}
+use Rattle.plans.specs.Checking.{roundVerdict, roundsVerdict}
 use Rattle.rounds.specs.Answers.{verdictSaid}
 use Rattle.laws.proofs.Lists.{part-next, part-fits}
 use Rattle.laws.proofs.Fold.{first-start, first-next, first-here, first-none}

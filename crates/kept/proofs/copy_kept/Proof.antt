@@ -25,7 +25,7 @@ unfolding copyAnswer after
 returns c =
     let a = c .before .before .before .before .before .before .before .args in
     let e : lengthJudged 0 (a .lines .now) ≡ refusalAnswer (c .before .length .given .0 .0) = sym (c .before .before .before .judge-length .ensures) ∙ rw (c .before .length .given .1) in
-    (rw e, refl)
+    record { answer = rw e; new-room = refl }
 
 enum-told : tie.Need-enum-told
 enum-told c = search needs
@@ -35,7 +35,7 @@ unfolding copyAnswer after roomJudged
 returns-2 c =
     let a = c .before .before .before .before .before .before .before .args in
     let e : lengthJudged 0 (a .lines .now) ≡ taken = sym (c .before .before .before .judge-length .ensures) ∙ rw (c .before .enum-told .given .1) in
-    (rw (e, lt-ltb _ _ (c .if1 .taken)), refl)
+    record { answer = rw (e, lt-ltb _ _ (c .if1 .taken)); new-room = refl }
 
 count-of-requires : tie.Need-count-of-requires
 count-of-requires c κs = search needs
@@ -46,7 +46,7 @@ returns-3 c =
     let a = c .before .before .before .before .before .before .before .before .before .args in
     let e : lengthJudged 0 (a .lines .now) ≡ taken = sym (c .before .before .before .before .before .judge-length .ensures) ∙ rw (c .before .before .before .enum-told .given .1) in
     let short : ltb (length (a .room .now)) (2 * keptOf (a .lines .now) (a .ranks .now)) ≡ true = lt-ltb (length (a .room .now)) (2 * keptOf (a .lines .now) (a .ranks .now)) (omega (arith, c .before .count-of .ensures (c .before .before .if1 .left), c .if2 .taken)) in
-    (rw (e, le-ltb _ _ (c .before .before .if1 .left), short), refl)
+    record { answer = rw (e, le-ltb _ _ (c .before .before .if1 .left), short); new-room = refl }
 
 copy-lines-requires : tie.Need-copy-lines-requires
 copy-lines-requires c κs =
@@ -63,7 +63,10 @@ returns-4 c =
     let a = c .before .before .before .before .before .before .before .before .before .before .before .before .before .args in
     let e : lengthJudged 0 (a .lines .now) ≡ taken = sym (c .before .before .before .before .before .before .before .before .before .judge-length .ensures) ∙ rw (c .before .before .before .before .before .before .before .enum-told .given .1) in
     let room : ltb (length (a .room .now)) (2 * keptOf (a .lines .now) (a .ranks .now)) ≡ false = le-ltb (length (a .room .now)) (2 * keptOf (a .lines .now) (a .ranks .now)) (omega (arith, c .before .before .before .before .before .count-of .ensures (c .before .before .before .before .before .before .if1 .left), c .before .before .before .before .if2 .left)) in
-    (rw (e, le-ltb _ _ (c .before .before .before .before .before .before .if1 .left), room) (ap given (c .before .before .before .before .before .count-of .ensures (c .before .before .before .before .before .before .if1 .left))), c .before .before .copy-lines .ensures)
+    record {
+      answer = rw (e, le-ltb _ _ (c .before .before .before .before .before .before .if1 .left), room) (ap given (c .before .before .before .before .before .count-of .ensures (c .before .before .before .before .before .before .if1 .left)));
+      new-room = c .before .before .copy-lines .ensures;
+    }
 
 pub copy-kept-spec : {M : Type 1} → statement M
 copy-kept-spec =

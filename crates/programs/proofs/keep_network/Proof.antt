@@ -58,8 +58,8 @@ returns c =
     let w = c .before .before .write-kept in
     let kept = c .before .before .before .before .before .before .pruned .given .0 .0 in
     let count = length (a .lines .now) / 2 in
-    let e : pruneAnswer (a .n) (a .level .0) (a .lines .now) (a .starts .now) 8192 16384 ≡ given kept = rw (← (p .0), ← (p .1)) (sym (d .ensures .0) ∙ rw (c .before .before .before .before .before .before .pruned .given .1)) in
-    let full : d .last .1 .1 .1 .1 .0 ≡ pruned (a .n) (a .level .0) (a .lines .now) (a .starts .now) .ranks ++ drop (length (pruned (a .n) (a .level .0) (a .lines .now) (a .starts .now) .ranks)) (a .ranks .now) = rw (c .before .before .before .before .before .before .pruned .given .1) at (d .ensures .1 .0) in
+    let e : pruneAnswer (a .n) (a .level .0) (a .lines .now) (a .starts .now) 8192 16384 ≡ given kept = rw (← (p .0), ← (p .1)) (sym (d .ensures .answer) ∙ rw (c .before .before .before .before .before .before .pruned .given .1)) in
+    let full : d .last .1 .1 .1 .1 .0 ≡ pruned (a .n) (a .level .0) (a .lines .now) (a .starts .now) .ranks ++ drop (length (pruned (a .n) (a .level .0) (a .lines .now) (a .starts .now) .ranks)) (a .ranks .now) = rw (c .before .before .before .before .before .before .pruned .given .1) at (d .ensures .new-ranks) in
     let part : take count (d .last .1 .1 .1 .1 .0) ≡ pruned (a .n) (a .level .0) (a .lines .now) (a .starts .now) .ranks = rw full (take-at (pruned (a .n) (a .level .0) (a .lines .now) (a .starts .now) .ranks) (drop (length (pruned (a .n) (a .level .0) (a .lines .now) (a .starts .now) .ranks)) (a .ranks .now)) count (pruned-size (a .n) (a .level .0) (a .lines .now) (a .starts .now))) in
     let few : ltb 16384 (length (a .lines .now)) ≡ false = le-ltb 16384 (length (a .lines .now)) (p .2) in
     let room : ltb (length (a .text .now)) (128 + 64 * count) ≡ false = le-ltb (length (a .text .now)) (128 + 64 * count) (omega (arith, p .2, p .3)) in
@@ -81,7 +81,7 @@ returns-2 c =
     let p = c .before .before .before .before .before .before .before .before .before .before .before .before .before .before .before .before .before .before .before .pre in
     let d = c .before .before .before .before .before .before .before .before .before .before .before .prune in
     let w = c .before .before .write-refused in
-    let e : pruneAnswer (a .n) (a .level .0) (a .lines .now) (a .starts .now) 8192 16384 ≡ refusalAnswer (c .before .before .before .before .before .pruned2 .given .0 .0) = rw (← (p .0), ← (p .1)) (sym (d .ensures .0) ∙ rw (c .before .before .before .before .before .pruned2 .given .1)) in
+    let e : pruneAnswer (a .n) (a .level .0) (a .lines .now) (a .starts .now) 8192 16384 ≡ refusalAnswer (c .before .before .before .before .before .pruned2 .given .0 .0) = rw (← (p .0), ← (p .1)) (sym (d .ensures .answer) ∙ rw (c .before .before .before .before .before .pruned2 .given .1)) in
     let room : ltb (length (a .text .now)) 64 ≡ false = le-ltb (length (a .text .now)) 64 (omega (arith, p .3)) in
     (rw e (rw room at (w .ensures .0)), rw e (rw room at (w .ensures .1)))
 

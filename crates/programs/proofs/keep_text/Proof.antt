@@ -7,7 +7,7 @@ use Rattle.programs.proofs.keep_text.Statement.{statement}
 use Rattle.programs.proofs.keep_text.Tie as tie
 
 returns : tie.Need-returns
-returns c = let e = lt-ltb (length (c .before .before .before .args .text .now)) 524416 (c .if1 .taken) in (rw e, rw e)
+returns c = let e = lt-ltb (length (c .before .before .before .args .text .now)) 524416 (c .if1 .taken) in record { answer = rw e; new-text = rw e }
 
 slice-aggregate-keep-file : tie.Need-slice-aggregate-keep-file
 slice-aggregate-keep-file c = search needs
@@ -28,7 +28,7 @@ same-length : tie.Need-same-length
 same-length c = search needs
 
 returns-2 : tie.Need-returns-2
-returns-2 c = let e = le-ltb (length (c .before .before .before .before .before .before .before .before .before .before .before .before .before .before .before .args .text .now)) 524416 (c .before .before .before .before .before .before .before .before .before .before .before .before .if1 .left) in (rw e (c .before .before .before .before .before .before .keep-file .ensures .0), rw e (c .before .before .before .before .before .before .keep-file .ensures .1))
+returns-2 c = let e = le-ltb (length (c .before .before .before .before .before .before .before .before .before .before .before .before .before .before .before .args .text .now)) 524416 (c .before .before .before .before .before .before .before .before .before .before .before .before .if1 .left) in record { answer = rw e (c .before .before .before .before .before .before .keep-file .ensures .0); new-text = rw e (c .before .before .before .before .before .before .keep-file .ensures .1) }
 
 pub keep-text-spec : {M : Type 1} → statement M
 keep-text-spec =

@@ -7,7 +7,7 @@ use Rattle.programs.proofs.weak_text.Statement.{statement}
 use Rattle.programs.proofs.weak_text.Tie as tie
 
 returns : tie.Need-returns
-returns c = let e = lt-ltb (length (c .before .before .before .args .text .now)) 256 (c .if1 .taken) in (rw e, rw e)
+returns c = let e = lt-ltb (length (c .before .before .before .args .text .now)) 256 (c .if1 .taken) in record { answer = rw e; new-text = rw e }
 
 slice-aggregate-weak-file : tie.Need-slice-aggregate-weak-file
 slice-aggregate-weak-file c = search needs
@@ -22,7 +22,7 @@ same-length : tie.Need-same-length
 same-length c = search needs
 
 returns-2 : tie.Need-returns-2
-returns-2 c = let e = le-ltb (length (c .before .before .before .before .before .before .before .before .before .before .before .args .text .now)) 256 (c .before .before .before .before .before .before .before .before .if1 .left) in (rw e (c .before .before .before .before .weak-file .ensures .0), rw e (c .before .before .before .before .weak-file .ensures .1))
+returns-2 c = let e = le-ltb (length (c .before .before .before .before .before .before .before .before .before .before .before .args .text .now)) 256 (c .before .before .before .before .before .before .before .before .if1 .left) in record { answer = rw e (c .before .before .before .before .weak-file .ensures .0); new-text = rw e (c .before .before .before .before .weak-file .ensures .1) }
 
 pub weak-text-spec : {M : Type 1} → statement M
 weak-text-spec =

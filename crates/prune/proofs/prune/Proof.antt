@@ -47,7 +47,7 @@ returns c =
     let a = c .before .before .before .before .before .before .before .before .before .args in
     let j = c .before .before .before .judge-request in
     let e : requestJudged (a .n) (a .level .0) (a .lines .now) (a .starts .now) (planShort (a .n) (a .level .0) (a .lines .now) (length (a .ranks .now)) (length (a .orders .now))) ≡ refusalAnswer (c .before .judged .given .0 .0) = rw (← (c .before .before .before .before .is-plan-short .ensures)) (sym (j .ensures) ∙ rw (c .before .judged .given .1)) in
-    (rw e, (refl, refl))
+    record { answer = rw e; new-ranks = refl; new-orders = refl }
 
 enum-told : tie.Need-enum-told
 enum-told c = search needs
@@ -100,13 +100,12 @@ returns-2 c =
     let (e, r) = in-order (c .before .before .before .before .before .before .before .before) in
     let (lr, lo) = room-enough (a .n) (a .level .0) (a .lines .now) (length (a .ranks .now)) (length (a .orders .now)) (r .sized .room) in
     let size = length (a .lines .now) / 2 in
-    let span = a .level .0 * a .n in (
-      rw e (ap given (d .ensures .1)),
-      (
-        written (d .result) _ (a .ranks .now) (d .last .1 .1 .1 .1 .0) size (ap (λ (x : Rounds). x .ranks) (d .ensures .0)) (d .kept .1 .1 .1 .1 .0 ∙ length-take-le size (a .ranks .now) lr),
-        written (d .result) _ (a .orders .now) (d .last .1 .1 .1 .1 .1 .0) span (ap (λ (x : Rounds). x .orders) (d .ensures .0)) (d .kept .1 .1 .1 .1 .1 .0 ∙ length-take-le span (a .orders .now) lo),
-      ),
-    )
+    let span = a .level .0 * a .n in
+    record {
+      answer = rw e (ap given (d .ensures .1));
+      new-ranks = written (d .result) _ (a .ranks .now) (d .last .1 .1 .1 .1 .0) size (ap (λ (x : Rounds). x .ranks) (d .ensures .0)) (d .kept .1 .1 .1 .1 .0 ∙ length-take-le size (a .ranks .now) lr);
+      new-orders = written (d .result) _ (a .orders .now) (d .last .1 .1 .1 .1 .1 .0) span (ap (λ (x : Rounds). x .orders) (d .ensures .0)) (d .kept .1 .1 .1 .1 .1 .0 ∙ length-take-le span (a .orders .now) lo);
+    }
 
 pub prune-spec : {M : Type 1} → statement M
 prune-spec =

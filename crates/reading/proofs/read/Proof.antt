@@ -15,14 +15,14 @@ use Rattle.reading.proofs.read.Tie as tie
 
 returns : tie.Need-returns
 unfolding readAnswer linesAfter startsAfter roomJudged
-returns c = let e = lt-ltb (length (c .before .before .before .before .args .lines .now)) 16384 (c .if1 .taken) in (rw e, (rw e, rw e))
+returns c = let e = lt-ltb (length (c .before .before .before .before .args .lines .now)) 16384 (c .if1 .taken) in record { answer = rw e; new-lines = rw e; new-starts = rw e }
 
 returns-2 : tie.Need-returns-2
 unfolding readAnswer linesAfter startsAfter roomJudged
 returns-2 c =
     let l = le-ltb (length (c .before .before .before .before .before .args .lines .now)) 16384 (c .before .if1 .left) in
     let e = lt-ltb (length (c .before .before .before .before .before .args .starts .now)) 16 (c .if2 .taken) in
-    (rw (l, e), (rw (l, e), rw (l, e)))
+    record { answer = rw (l, e); new-lines = rw (l, e); new-starts = rw (l, e) }
 
 read-file-requires : tie.Need-read-file-requires
 read-file-requires c κs = search needs
@@ -62,7 +62,7 @@ returns-3 c =
     let found = c .before .before .before .before .before .before .before .before .before .reading .given .0 .0 in
     let e : fileRead (a .bytes .now) ≡ given (factsOf found) = sym (c .before .before .before .before .before .before .before .before .before .before .before .read-file .ensures) ∙ ap readingAnswer (c .before .before .before .before .before .before .before .before .before .reading .given .1) in
     let r = read-room (a .bytes .now) (a .lines .now) (a .starts .now) (omega arith) (omega arith) ∙ e in
-    (sym r, (rw r (c .before .before .before .before .before .before .copy-lines .ensures), rw r (c .before .before .copy-starts .ensures)))
+    record { answer = sym r; new-lines = rw r (c .before .before .before .before .before .before .copy-lines .ensures); new-starts = rw r (c .before .before .copy-starts .ensures) }
 
 returns-4 : tie.Need-returns-4
 unfolding linesAfter startsAfter
@@ -70,7 +70,7 @@ returns-4 c =
     let a = c .before .before .before .before .before .before .before .before .before .args in
     let e : fileRead (a .bytes .now) ≡ refusalAnswer (c .before .reading2 .given .0 .0) = sym (c .before .before .before .read-file .ensures) ∙ ap readingAnswer (c .before .reading2 .given .1) in
     let r = read-room (a .bytes .now) (a .lines .now) (a .starts .now) (omega arith) (omega arith) ∙ e in
-    (sym r, (rw r, rw r))
+    record { answer = sym r; new-lines = rw r; new-starts = rw r }
 
 pub read-spec : {M : Type 1} → statement M
 read-spec =

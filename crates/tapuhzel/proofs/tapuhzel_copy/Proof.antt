@@ -5,6 +5,7 @@ use Rattle.kinds.specs.Answers.{Answer.given, refusalAnswer}
 use lib.ListN.{length}
 use mathlib.Core.Path.{_≡_, sym, _∙_}
 use borrow.Author.Needs.{needs}
+use Rattle.tapuhzel.proofs.Results.{all-three}
 use Rattle.tapuhzel.proofs.tapuhzel_copy.Statement.{statement}
 use Rattle.tapuhzel.proofs.tapuhzel_copy.Tie as tie
 
@@ -31,8 +32,8 @@ returns c =
     let a = c .before .before .before .before .before .before .before .before .before .before .before .before .before .args in
     let d = c .before .before .before .before .before .before .before .before .copy-kept in
     let said = c .say-taken .ensures in
-    let e : copyAnswer (a .lines .now) (a .ranks .now) (length (a .room .now)) ≡ given (c .before .before .before .before .answer .given .0 .0) = sym (d .ensures .0) ∙ rw (c .before .before .before .before .answer .given .1) in
-    (rw e (said .0), (rw (← (d .ensures .0)) (d .ensures .1), (rw e, (rw e (said .1), rw e (said .2)))))
+    let e : copyAnswer (a .lines .now) (a .ranks .now) (length (a .room .now)) ≡ given (c .before .before .before .before .answer .given .0 .0) = sym (d .ensures .answer) ∙ rw (c .before .before .before .before .answer .given .1) in
+    all-three (all-three (rw e (said .0)) (rw e (said .1)) (rw e (said .2))) (rw e) (rw (← (d .ensures .answer)) (d .ensures .new-room))
 
 same-length-2 : tie.Need-same-length-2
 same-length-2 c = search needs
@@ -42,8 +43,8 @@ returns-2 c =
     let a = c .before .before .before .before .before .before .before .before .before .before .before .before .before .args in
     let d = c .before .before .before .before .before .before .before .before .copy-kept in
     let said = c .say-refusal .ensures in
-    let e : copyAnswer (a .lines .now) (a .ranks .now) (length (a .room .now)) ≡ refusalAnswer (c .before .before .before .before .answer2 .given .0 .0) = sym (d .ensures .0) ∙ rw (c .before .before .before .before .answer2 .given .1) in
-    (rw e (said .0), (rw (← (d .ensures .0)) (d .ensures .1), (rw e, (rw e (said .1 .0), rw e (said .1 .1)))))
+    let e : copyAnswer (a .lines .now) (a .ranks .now) (length (a .room .now)) ≡ refusalAnswer (c .before .before .before .before .answer2 .given .0 .0) = sym (d .ensures .answer) ∙ rw (c .before .before .before .before .answer2 .given .1) in
+    all-three (all-three (rw e (said .0)) (rw e (said .1 .0)) (rw e (said .1 .1))) (rw e) (rw (← (d .ensures .answer)) (d .ensures .new-room))
 
 pub tapuhzel-copy-spec : {M : Type 1} → statement M
 tapuhzel-copy-spec =

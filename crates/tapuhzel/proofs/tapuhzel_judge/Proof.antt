@@ -3,6 +3,7 @@ use mathlib.Core.Path.{_≡_, sym, _∙_}
 use borrow.Author.Needs.{needs}
 use Rattle.kinds.specs.Answers.{Answer.given, taken, refusalAnswer}
 use Rattle.network.specs.Judging.{listJudged}
+use Rattle.tapuhzel.proofs.Results.{all-three}
 use Rattle.tapuhzel.proofs.tapuhzel_judge.Statement.{statement}
 use Rattle.tapuhzel.proofs.tapuhzel_judge.Tie as tie
 
@@ -19,7 +20,8 @@ returns : tie.Need-returns
 returns c =
     let a = c .before .before .before .before .before .before .before .before .args in
     let e : listJudged 0 (a .n) (a .lines .now) ≡ refusalAnswer (c .before .before .before .before .judged .given .0 .0) = sym (c .before .before .before .before .before .before .judge .ensures) ∙ rw (c .before .before .before .before .judged .given .1) in
-    (rw e (c .say-refusal .ensures .0), (rw e (c .say-refusal .ensures .1 .0), rw e (c .say-refusal .ensures .1 .1)))
+    let said = c .say-refusal .ensures in
+    all-three (rw e (said .0)) (rw e (said .1 .0)) (rw e (said .1 .1))
 
 enum-told : tie.Need-enum-told
 enum-told c = search needs
@@ -31,7 +33,8 @@ returns-2 : tie.Need-returns-2
 returns-2 c =
     let a = c .before .before .before .before .before .before .before .args in
     let e : listJudged 0 (a .n) (a .lines .now) ≡ taken = sym (c .before .before .before .before .before .judge .ensures) ∙ rw (c .before .before .before .enum-told .given .1) in
-    (rw e (c .say-taken .ensures .0), (rw e (c .say-taken .ensures .1), rw e (c .say-taken .ensures .2)))
+    let said = c .say-taken .ensures in
+    all-three (rw e (said .0)) (rw e (said .1)) (rw e (said .2))
 
 pub tapuhzel-judge-spec : {M : Type 1} → statement M
 tapuhzel-judge-spec =

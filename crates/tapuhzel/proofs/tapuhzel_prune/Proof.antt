@@ -4,6 +4,7 @@ use borrow.Author.Needs.{needs}
 use lib.ListN.{length}
 use Rattle.kinds.specs.Answers.{Answer.given, refusalAnswer}
 use Rattle.prune.specs.Pruning.{pruneAnswer}
+use Rattle.tapuhzel.proofs.Results.{all-three, all-four}
 use Rattle.tapuhzel.proofs.tapuhzel_prune.Statement.{statement}
 use Rattle.tapuhzel.proofs.tapuhzel_prune.Tie as tie
 
@@ -33,8 +34,8 @@ returns c =
     let a = c .before .before .before .before .before .before .before .before .before .before .before .before .before .before .before .before .before .args in
     let d = c .before .before .before .before .before .before .before .before .before .before .prune in
     let said = c .say-taken .ensures in
-    let e : pruneAnswer (a .n) (a .level) (a .lines .now) (a .starts .now) (length (a .ranks .now)) (length (a .orders .now)) ≡ given (c .before .before .before .before .answer .given .0 .0) = sym (d .ensures .0) ∙ rw (c .before .before .before .before .answer .given .1) in
-    (rw e (said .0), (rw (← (d .ensures .0)) (d .ensures .1 .0), (rw (← (d .ensures .0)) (d .ensures .1 .1), (rw e, (rw e (said .1), rw e (said .2))))))
+    let e : pruneAnswer (a .n) (a .level) (a .lines .now) (a .starts .now) (length (a .ranks .now)) (length (a .orders .now)) ≡ given (c .before .before .before .before .answer .given .0 .0) = sym (d .ensures .answer) ∙ rw (c .before .before .before .before .answer .given .1) in
+    all-four (all-three (rw e (said .0)) (rw e (said .1)) (rw e (said .2))) (rw e) (rw (← (d .ensures .answer)) (d .ensures .new-ranks)) (rw (← (d .ensures .answer)) (d .ensures .new-orders))
 
 same-length-3 : tie.Need-same-length-3
 same-length-3 c = search needs
@@ -47,8 +48,8 @@ returns-2 c =
     let a = c .before .before .before .before .before .before .before .before .before .before .before .before .before .before .before .before .before .args in
     let d = c .before .before .before .before .before .before .before .before .before .before .prune in
     let said = c .say-refusal .ensures in
-    let e : pruneAnswer (a .n) (a .level) (a .lines .now) (a .starts .now) (length (a .ranks .now)) (length (a .orders .now)) ≡ refusalAnswer (c .before .before .before .before .answer2 .given .0 .0) = sym (d .ensures .0) ∙ rw (c .before .before .before .before .answer2 .given .1) in
-    (rw e (said .0), (rw (← (d .ensures .0)) (d .ensures .1 .0), (rw (← (d .ensures .0)) (d .ensures .1 .1), (rw e, (rw e (said .1 .0), rw e (said .1 .1))))))
+    let e : pruneAnswer (a .n) (a .level) (a .lines .now) (a .starts .now) (length (a .ranks .now)) (length (a .orders .now)) ≡ refusalAnswer (c .before .before .before .before .answer2 .given .0 .0) = sym (d .ensures .answer) ∙ rw (c .before .before .before .before .answer2 .given .1) in
+    all-four (all-three (rw e (said .0)) (rw e (said .1 .0)) (rw e (said .1 .1))) (rw e) (rw (← (d .ensures .answer)) (d .ensures .new-ranks)) (rw (← (d .ensures .answer)) (d .ensures .new-orders))
 
 pub tapuhzel-prune-spec : {M : Type 1} → statement M
 tapuhzel-prune-spec =

@@ -20,7 +20,7 @@ unfolding unionAnswer after
 returns c =
     let a = c .before .before .before .before .before .before .before .args in
     let e : listsJudged (a .n) (a .first .now) (a .second .now) ≡ refusalAnswer (c .before .judged .given .0 .0) = sym (c .before .before .before .judge-lists .ensures) ∙ rw (c .before .judged .given .1) in
-    (rw e, refl)
+    record { answer = rw e; new-room = refl }
 
 enum-told : tie.Need-enum-told
 enum-told c = search needs
@@ -40,7 +40,7 @@ unfolding unionAnswer
 returns-2 c =
     let a = c .before .before .before .before .before .before .before .before .before .before .args in
     let e : listsJudged (a .n) (a .first .now) (a .second .now) ≡ taken = sym (c .before .before .before .before .before .before .judge-lists .ensures) ∙ rw (c .before .before .before .before .enum-told .given .1) in
-    (rw e (c .before .before .unite-lists .ensures .0), c .before .before .unite-lists .ensures .1)
+    record { answer = rw e (c .before .before .unite-lists .ensures .0); new-room = c .before .before .unite-lists .ensures .1 }
 
 pub unite-spec : {M : Type 1} → statement M
 unite-spec =

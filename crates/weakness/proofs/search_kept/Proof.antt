@@ -95,7 +95,7 @@ search-list-requires c κs =
     let room : m ≤ length (c .before .before .before .before .before .before .before .before .before .before .before .before .prune .last .1 .1 .1 .1 .0) = omega (arith, p .5, p .0 .within .few, c .before .before .before .before .before .before .before .before .before .before .before .before .prune .kept .1 .1 .1 .1 .0) in
     let part = take m (c .before .before .before .before .before .before .before .before .before .before .before .before .prune .last .1 .1 .1 .1 .0) in
     let size : length part ≡ m = length-take-le m (c .before .before .before .before .before .before .before .before .before .before .before .before .prune .last .1 .1 .1 .1 .0) room in
-    let copied : take (2 * keptCount part) (c .before .before .before .before .before .copy-kept .last .1 .1 .0) ≡ keptLines (a .lines .now) part = copied-front (a .n) (a .lines .now) part (p .0) size _ (a .kept .now) (c .before .before .before .before .before .copy-kept .last .1 .1 .0) (p .7) (c .before .before .before .before .before .copy-kept .ensures .0) (c .before .before .before .before .before .copy-kept .ensures .1) in
+    let copied : take (2 * keptCount part) (c .before .before .before .before .before .copy-kept .last .1 .1 .0) ≡ keptLines (a .lines .now) part = copied-front (a .n) (a .lines .now) part (p .0) size _ (a .kept .now) (c .before .before .before .before .before .copy-kept .last .1 .1 .0) (p .7) (c .before .before .before .before .before .copy-kept .ensures .answer) (c .before .before .before .before .before .copy-kept .ensures .new-room) in
     rw (c .before .count-kept .ensures, copied) (kept-sound (p .0) part)
 
 same-length : tie.Need-same-length
@@ -116,8 +116,8 @@ returns c =
     let part = take m (c .before .before .before .before .before .before .before .before .before .before .before .before .before .prune .last .1 .1 .1 .1 .0) in
     let size : length part ≡ m = length-take-le m (c .before .before .before .before .before .before .before .before .before .before .before .before .before .prune .last .1 .1 .1 .1 .0) room in
     let ranks = pruned (a .n) (a .level .0) (a .lines .now) (a .starts .now) .ranks in
-    let front : take m (c .before .before .before .before .before .before .before .before .before .before .before .before .before .prune .last .1 .1 .1 .1 .0) ≡ ranks = pruned-front (a .n) (a .level .0) (a .lines .now) (a .starts .now) (p .0) (p .1) (p .2) (p .3) (p .4) _ (a .ranks .now) (c .before .before .before .before .before .before .before .before .before .before .before .before .before .prune .last .1 .1 .1 .1 .0) _ (p .5) (p .6) (c .before .before .before .before .before .before .before .before .before .before .before .before .before .prune .ensures .0) (c .before .before .before .before .before .before .before .before .before .before .before .before .before .prune .ensures .1 .0) in
-    let copied : take (2 * keptCount part) (c .before .before .before .before .before .before .copy-kept .last .1 .1 .0) ≡ keptLines (a .lines .now) part = copied-front (a .n) (a .lines .now) part (p .0) size _ (a .kept .now) (c .before .before .before .before .before .before .copy-kept .last .1 .1 .0) (p .7) (c .before .before .before .before .before .before .copy-kept .ensures .0) (c .before .before .before .before .before .before .copy-kept .ensures .1) in
+    let front : take m (c .before .before .before .before .before .before .before .before .before .before .before .before .before .prune .last .1 .1 .1 .1 .0) ≡ ranks = pruned-front (a .n) (a .level .0) (a .lines .now) (a .starts .now) (p .0) (p .1) (p .2) (p .3) (p .4) _ (a .ranks .now) (c .before .before .before .before .before .before .before .before .before .before .before .before .before .prune .last .1 .1 .1 .1 .0) _ (p .5) (p .6) (c .before .before .before .before .before .before .before .before .before .before .before .before .before .prune .ensures .answer) (c .before .before .before .before .before .before .before .before .before .before .before .before .before .prune .ensures .new-ranks) in
+    let copied : take (2 * keptCount part) (c .before .before .before .before .before .before .copy-kept .last .1 .1 .0) ≡ keptLines (a .lines .now) part = copied-front (a .n) (a .lines .now) part (p .0) size _ (a .kept .now) (c .before .before .before .before .before .before .copy-kept .last .1 .1 .0) (p .7) (c .before .before .before .before .before .before .copy-kept .ensures .answer) (c .before .before .before .before .before .before .copy-kept .ensures .new-room) in
     c .search-list .ensures ∙ (rw (c .before .before .count-kept .ensures, copied, front) (sym (pruned-weak-spot (a .n) (a .level .0) (a .lines .now) (a .starts .now) (p .0) (p .1) (p .2) (p .3) (p .4))))
 
 pub search-kept-spec : {M : Type 1} → statement M

@@ -29,7 +29,7 @@ returns c =
     let short = ltb (length (a .bytes .now)) (fileLength (a .lines .now) (a .starts .now)) in
     let e : judgedAnswer (Refused (c .before .judged .given .0 .0)) ≡ requestJudged (a .n) (a .level .0) (a .lines .now) (a .starts .now) short =
     ap judgedAnswer (sym (c .before .judged .given .1)) ∙ (c .before .before .before .judge-request .ensures ∙ ap (requestJudged (a .n) (a .level .0) (a .lines .now) (a .starts .now)) (c .before .before .before .before .is-short .ensures)) in
-    (rw (← e), rw (← e))
+    record { answer = rw (← e); new-bytes = rw (← e) }
 
 enum-told : tie.Need-enum-told
 enum-told c = search needs
@@ -53,7 +53,7 @@ returns-2 c =
     let short = ltb (length (a .bytes .now)) (fileLength (a .lines .now) (a .starts .now)) in
     let e : taken ≡ requestJudged (a .n) (a .level .0) (a .lines .now) (a .starts .now) short =
     ap judgedAnswer (sym (c .before .before .before .before .enum-told .given .1)) ∙ (c .before .before .before .before .before .before .judge-request .ensures ∙ ap (requestJudged (a .n) (a .level .0) (a .lines .now) (a .starts .now)) (c .before .before .before .before .before .before .before .is-short .ensures)) in
-    (rw (← e) (ap given (c .before .before .write-file .ensures .0)), rw (← e) (c .before .before .write-file .ensures .1))
+    record { answer = rw (← e) (ap given (c .before .before .write-file .ensures .0)); new-bytes = rw (← e) (c .before .before .write-file .ensures .1) }
 
 pub write-spec : {M : Type 1} → statement M
 write-spec =

@@ -5,6 +5,7 @@ use Rattle.reading.specs.Answers.{factsOf}
 use Rattle.kinds.specs.Answers.{Answer.given, refusalAnswer}
 use mathlib.Core.Path.{_≡_, sym, _∙_}
 use borrow.Author.Needs.{needs}
+use Rattle.tapuhzel.proofs.Results.{all-three, all-seven}
 use Rattle.tapuhzel.proofs.file.tapuhzel_read.Statement.{statement}
 use Rattle.tapuhzel.proofs.file.tapuhzel_read.Tie as tie
 
@@ -34,8 +35,8 @@ returns c =
     let a = c .before .before .before .before .before .before .before .before .before .before .before .before .before .before .before .before .args in
     let d = c .before .before .before .before .before .before .before .before .before .before .read in
     let said = c .say-taken .ensures in
-    let e : readAnswer (a .bytes .now) (a .lines .now) (a .starts .now) ≡ given (factsOf (c .before .before .before .before .answer .given .0 .0)) = sym (d .ensures .0) ∙ rw (c .before .before .before .before .answer .given .1) in
-    (rw e (said .0), (d .ensures .1 .0, (d .ensures .1 .1, (rw e, (rw e, (rw e, (rw e, (rw e (said .1), rw e (said .2)))))))))
+    let e : readAnswer (a .bytes .now) (a .lines .now) (a .starts .now) ≡ given (factsOf (c .before .before .before .before .answer .given .0 .0)) = sym (d .ensures .answer) ∙ rw (c .before .before .before .before .answer .given .1) in
+    all-seven (all-three (rw e (said .0)) (rw e (said .1)) (rw e (said .2))) (rw e) (rw e) (rw e) (rw e) (d .ensures .new-lines) (d .ensures .new-starts)
 
 same-length-3 : tie.Need-same-length-3
 same-length-3 c = search needs
@@ -48,8 +49,8 @@ returns-2 c =
     let a = c .before .before .before .before .before .before .before .before .before .before .before .before .before .before .before .before .args in
     let d = c .before .before .before .before .before .before .before .before .before .before .read in
     let said = c .say-refusal .ensures in
-    let e : readAnswer (a .bytes .now) (a .lines .now) (a .starts .now) ≡ refusalAnswer (c .before .before .before .before .answer2 .given .0 .0) = sym (d .ensures .0) ∙ rw (c .before .before .before .before .answer2 .given .1) in
-    (rw e (said .0), (d .ensures .1 .0, (d .ensures .1 .1, (rw e, (rw e, (rw e, (rw e, (rw e (said .1 .0), rw e (said .1 .1)))))))))
+    let e : readAnswer (a .bytes .now) (a .lines .now) (a .starts .now) ≡ refusalAnswer (c .before .before .before .before .answer2 .given .0 .0) = sym (d .ensures .answer) ∙ rw (c .before .before .before .before .answer2 .given .1) in
+    all-seven (all-three (rw e (said .0)) (rw e (said .1 .0)) (rw e (said .1 .1))) (rw e) (rw e) (rw e) (rw e) (d .ensures .new-lines) (d .ensures .new-starts)
 
 pub tapuhzel-read-spec : {M : Type 1} → statement M
 tapuhzel-read-spec = tie.close (tie.spec read-requires enum-known-answer say-taken-requires enum-known-answer-2 say-refusal-requires same-length same-length-2 returns same-length-3 same-length-4 returns-2)

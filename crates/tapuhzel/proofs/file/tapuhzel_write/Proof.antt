@@ -4,6 +4,7 @@ use Rattle.writing.specs.Writing.{writeAnswer}
 use Rattle.kinds.specs.Answers.{Answer.given, refusalAnswer}
 use mathlib.Core.Path.{_≡_, sym, _∙_}
 use borrow.Author.Needs.{needs}
+use Rattle.tapuhzel.proofs.Results.{all-three}
 use Rattle.tapuhzel.proofs.file.tapuhzel_write.Statement.{statement}
 use Rattle.tapuhzel.proofs.file.tapuhzel_write.Tie as tie
 
@@ -30,8 +31,8 @@ returns c =
     let a = c .before .before .before .before .before .before .before .before .before .before .before .before .before .args in
     let d = c .before .before .before .before .before .before .before .before .write in
     let said = c .say-taken .ensures in
-    let e : writeAnswer (a .n) (a .level) (a .lines .now) (a .starts .now) (a .bytes .now) ≡ given (c .before .before .before .before .answer .given .0 .0) = sym (d .ensures .0) ∙ rw (c .before .before .before .before .answer .given .1) in
-    (rw e (said .0), (d .ensures .1, (rw e, (rw e (said .1), rw e (said .2)))))
+    let e : writeAnswer (a .n) (a .level) (a .lines .now) (a .starts .now) (a .bytes .now) ≡ given (c .before .before .before .before .answer .given .0 .0) = sym (d .ensures .answer) ∙ rw (c .before .before .before .before .answer .given .1) in
+    all-three (all-three (rw e (said .0)) (rw e (said .1)) (rw e (said .2))) (rw e) (d .ensures .new-bytes)
 
 same-length-2 : tie.Need-same-length-2
 same-length-2 c = search needs
@@ -41,8 +42,8 @@ returns-2 c =
     let a = c .before .before .before .before .before .before .before .before .before .before .before .before .before .args in
     let d = c .before .before .before .before .before .before .before .before .write in
     let said = c .say-refusal .ensures in
-    let e : writeAnswer (a .n) (a .level) (a .lines .now) (a .starts .now) (a .bytes .now) ≡ refusalAnswer (c .before .before .before .before .answer2 .given .0 .0) = sym (d .ensures .0) ∙ rw (c .before .before .before .before .answer2 .given .1) in
-    (rw e (said .0), (d .ensures .1, (rw e, (rw e (said .1 .0), rw e (said .1 .1)))))
+    let e : writeAnswer (a .n) (a .level) (a .lines .now) (a .starts .now) (a .bytes .now) ≡ refusalAnswer (c .before .before .before .before .answer2 .given .0 .0) = sym (d .ensures .answer) ∙ rw (c .before .before .before .before .answer2 .given .1) in
+    all-three (all-three (rw e (said .0)) (rw e (said .1 .0)) (rw e (said .1 .1))) (rw e) (d .ensures .new-bytes)
 
 pub tapuhzel-write-spec : {M : Type 1} → statement M
 tapuhzel-write-spec = tie.close (tie.spec write-requires enum-known-answer say-taken-requires enum-known-answer-2 say-refusal-requires same-length returns same-length-2 returns-2)

@@ -5,6 +5,7 @@ use Rattle.weakness.specs.Answers.{foundStanding}
 use Rattle.kinds.specs.Answers.{Answer.given, refusalAnswer}
 use mathlib.Core.Path.{_≡_, sym, _∙_}
 use borrow.Author.Needs.{needs}
+use Rattle.tapuhzel.proofs.Results.{all-three, all-seven}
 use Rattle.tapuhzel.proofs.spot.tapuhzel_weak.Statement.{statement}
 use Rattle.tapuhzel.proofs.spot.tapuhzel_weak.Tie as tie
 
@@ -35,7 +36,7 @@ returns c =
     let f = c .before .before .before .say-found .ensures in
     let said = c .say-taken .ensures in
     let e : weakAnswer (a .n) (a .level) (a .lines .now) ≡ given (foundStanding (c .before .before .before .before .before .before .before .before .before .before .before .answer .given .0 .0)) = sym (c .before .before .before .before .before .before .before .before .before .before .before .before .before .find-weak-spot .ensures) ∙ rw (c .before .before .before .before .before .before .before .before .before .before .before .answer .given .1) in
-    (rw e (said .0), (rw e (f .0), (rw e (f .1 .0), (rw e (f .1 .1 .0), (rw e (f .1 .1 .1 .0), (rw e (f .1 .1 .1 .1 .0), (rw e (f .1 .1 .1 .1 .1), (rw e (said .1), rw e (said .2)))))))))
+    all-seven (all-three (rw e (said .0)) (rw e (said .1)) (rw e (said .2))) (rw e (f .0)) (rw e (f .1 .0)) (rw e (f .1 .1 .0)) (rw e (f .1 .1 .1 .0)) (rw e (f .1 .1 .1 .1 .0)) (rw e (f .1 .1 .1 .1 .1))
 
 returns-2 : tie.Need-returns-2
 returns-2 c =
@@ -43,7 +44,7 @@ returns-2 c =
     let s = c .before .before .before .say-stands .ensures in
     let said = c .say-refusal .ensures in
     let e : weakAnswer (a .n) (a .level) (a .lines .now) ≡ refusalAnswer (c .before .before .before .before .before .before .before .before .before .before .before .answer2 .given .0 .0) = sym (c .before .before .before .before .before .before .before .before .before .before .before .before .before .find-weak-spot .ensures) ∙ rw (c .before .before .before .before .before .before .before .before .before .before .before .answer2 .given .1) in
-    (rw e (said .0), (rw e (s .0), (rw e (s .1 .0 .0), (rw e (s .1 .0 .1), (rw e (s .1 .0 .2), (rw e (s .1 .1 .0), (rw e (s .1 .1 .1), (rw e (said .1 .0), rw e (said .1 .1)))))))))
+    all-seven (all-three (rw e (said .0)) (rw e (said .1 .0)) (rw e (said .1 .1))) (rw e (s .0)) (rw e (s .1 .0 .0)) (rw e (s .1 .0 .1)) (rw e (s .1 .0 .2)) (rw e (s .1 .1 .0)) (rw e (s .1 .1 .1))
 
 pub tapuhzel-weak-spec : {M : Type 1} → statement M
 tapuhzel-weak-spec = tie.close (tie.spec find-weak-spot-requires enum-known-answer say-found-requires say-taken-requires enum-known-answer-2 say-stands-requires say-refusal-requires returns returns-2)

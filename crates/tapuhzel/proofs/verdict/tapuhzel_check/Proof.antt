@@ -5,6 +5,7 @@ use Rattle.rounds.specs.Answers.{verdictSaid}
 use Rattle.kinds.specs.Answers.{Answer.given, refusalAnswer}
 use mathlib.Core.Path.{_≡_, sym, _∙_}
 use borrow.Author.Needs.{needs}
+use Rattle.tapuhzel.proofs.Results.{all-three, all-four}
 use Rattle.tapuhzel.proofs.verdict.tapuhzel_check.Statement.{statement}
 use Rattle.tapuhzel.proofs.verdict.tapuhzel_check.Tie as tie
 
@@ -35,7 +36,7 @@ returns c =
     let said = c .say-taken .ensures in
     let v = c .before .before .before .say-verdict .ensures in
     let e : checkAnswer (a .n) (a .level) (a .lines .now) (a .ranks .now) (a .orders .now) ≡ given (verdictSaid (c .before .before .before .before .before .before .before .before .answer .given .0 .0)) = sym (c .before .before .before .before .before .before .before .before .before .before .check .ensures) ∙ rw (c .before .before .before .before .before .before .before .before .answer .given .1) in
-    (rw e (said .0), (rw e (v .0), (rw e (v .1 .0), (rw e (v .1 .1), (rw e (said .1), rw e (said .2))))))
+    all-four (all-three (rw e (said .0)) (rw e (said .1)) (rw e (said .2))) (rw e (v .0)) (rw e (v .1 .0)) (rw e (v .1 .1))
 
 returns-2 : tie.Need-returns-2
 returns-2 c =
@@ -43,7 +44,7 @@ returns-2 c =
     let said = c .say-refusal .ensures in
     let v = c .before .before .before .say-accepted .ensures in
     let e : checkAnswer (a .n) (a .level) (a .lines .now) (a .ranks .now) (a .orders .now) ≡ refusalAnswer (c .before .before .before .before .before .before .before .before .answer2 .given .0 .0) = sym (c .before .before .before .before .before .before .before .before .before .before .check .ensures) ∙ rw (c .before .before .before .before .before .before .before .before .answer2 .given .1) in
-    (rw e (said .0), (rw e (v .0), (rw e (v .1), (rw e (v .2), (rw e (said .1 .0), rw e (said .1 .1))))))
+    all-four (all-three (rw e (said .0)) (rw e (said .1 .0)) (rw e (said .1 .1))) (rw e (v .0)) (rw e (v .1)) (rw e (v .2))
 
 pub tapuhzel-check-spec : {M : Type 1} → statement M
 tapuhzel-check-spec =
