@@ -1,8 +1,8 @@
 //! Links the proved static library, and has `rt` build it first where it is not there or older than its sources. Also
 //! writes the wrong programs that the comparison is tried on: the second program with one edit each.
+mod built;
+
 use std::path::Path;
-use std::process::Command;
-use std::time::SystemTime;
 use std::{env, fs};
 
 fn main() {
@@ -13,25 +13,12 @@ fn main() {
 }
 
 fn link_library(top: &Path) {
-    let sources = top.join("crates");
+    built::bring_up_to_date(top, &["target/staticlib/libtapuhzel.a"], &["staticlib", "tapuhzel"]);
     let folder = top.join("target/staticlib");
-    let archive = folder.join("libtapuhzel.a");
-    if last_written(&archive) < last_written(&sources) {
-        let built = Command::new("rt").args(["staticlib", "tapuhzel"]).current_dir(top).status();
-        assert!(matches!(built, Ok(status) if status.success()), "rt staticlib tapuhzel failed");
-    }
-    println!("cargo:rerun-if-changed={}", archive.display());
-    println!("cargo:rerun-if-changed={}", sources.display());
+    println!("cargo:rerun-if-changed={}", folder.join("libtapuhzel.a").display());
+    println!("cargo:rerun-if-changed={}", top.join("crates").display());
     println!("cargo:rustc-link-search=native={}", folder.display());
     println!("cargo:rustc-link-lib=static=tapuhzel");
-}
-
-/// When a file, or the newest file below a folder, was written; long ago where there is none.
-fn last_written(path: &Path) -> SystemTime {
-    match fs::read_dir(path) {
-        Ok(entries) => entries.flatten().map(|entry| last_written(&entry.path())).max().unwrap_or(SystemTime::UNIX_EPOCH),
-        Err(_) => fs::metadata(path).and_then(|file| file.modified()).unwrap_or(SystemTime::UNIX_EPOCH),
-    }
 }
 
 /// The modules of the second program.
