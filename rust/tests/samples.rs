@@ -1,35 +1,37 @@
 //! The networks of samples/: each text list packs to its file, and both programs say of it what is stored there.
 
+mod repository;
+
 use std::io::Write;
-use std::path::PathBuf;
 use std::process::{Command, Stdio};
 use tapuhzel::listing::{draw, pack, unpack};
 use tapuhzel::{keep_text, second, weak_text};
 
-const NAMES: [&str; 6] = ["reservoir", "relay", "ring", "grid", "valley", "limits"];
+fn names() -> Vec<String> {
+    repository::names("samples", ".net")
+}
 
 fn stored(file: &str) -> Vec<u8> {
-    let path = PathBuf::from(env!("CARGO_MANIFEST_DIR")).join("../samples").join(file);
-    std::fs::read(&path).unwrap_or_else(|error| panic!("{}: {error}", path.display()))
+    repository::bytes(&format!("samples/{file}"))
 }
 
 fn stored_text(file: &str) -> String {
-    String::from_utf8(stored(file)).expect("a stored text is UTF-8")
+    repository::text(&format!("samples/{file}"))
 }
 
 #[test]
 fn texts_pack_to_their_files_and_back() {
-    for name in NAMES {
-        let packed = pack(&stored_text(&format!("{name}.txt"))).expect(name);
+    for name in names() {
+        let packed = pack(&stored_text(&format!("{name}.txt"))).expect(&name);
         assert!(packed == stored(&format!("{name}.net")), "{name}");
-        let unpacked = unpack(&packed).expect(name);
+        let unpacked = unpack(&packed).expect(&name);
         assert!(pack(&unpacked) == Ok(packed), "{name}");
     }
 }
 
 #[test]
 fn both_programs_say_what_is_stored() {
-    for name in NAMES {
+    for name in names() {
         let file = stored(&format!("{name}.net"));
         let (keep, weak) = (stored_text(&format!("{name}.keep.txt")), stored_text(&format!("{name}.weak.txt")));
         assert_eq!((keep_text(&file), weak_text(&file)), (keep.clone(), weak.clone()), "{name}");
@@ -40,8 +42,8 @@ fn both_programs_say_what_is_stored() {
 #[test]
 fn the_second_program_says_what_the_programs_are_held_to() {
     let held = |program: &str, text: fn(&[u8]) -> String| {
-        let (input, output) = (stored(&format!("../crates/{program}/stdin")), stored_text(&format!("../crates/{program}/stdout")));
-        assert_eq!(text(&input), output, "{program}");
+        let input = repository::bytes(&format!("crates/{program}/stdin"));
+        assert_eq!(text(&input), repository::text(&format!("crates/{program}/stdout")), "{program}");
     };
     held("keep", second::text::keep_text);
     held("weak", second::text::weak_text);
