@@ -7,7 +7,7 @@ use Rattle.kinds.specs.Answers.{Answer, Answer.given, Answer.refused}
 use Rattle.reading.specs.Reading.{Facts}
 use Rattle.report.specs.declared.Written.{Written}
 use Rattle.report.specs.declared.Written.the-variants.{Bytes, TooShort}
-use Rattle.weakness.specs.Standing.{Standing, Standing.stands, Standing.weak}
+use Rattle.parting.specs.Standing.{Standing, Standing.stands, Standing.weak}
 use Rattle.plans.specs.Verdicts.{Kind, Kind.A, Kind.B, Kind.C, Kind.D, Kind.E, Verdict, Verdict.accepted, Verdict.faulty}
 
 abbrev pub numberSaid : {A : Type 0} → Answer A → ℕ

@@ -4,18 +4,18 @@ use kinds::Station;
 use kinds::list_of;
 use kinds::number_of;
 use kinds::place_of;
+use parting::Found;
+use parting::Spot;
 use report::Written;
 use rounds::Fault;
 use rounds::FaultKind;
 use rounds::Verdict;
-use weakness::Found;
-use weakness::Spot;
 ghost use mathlib.Core.Path.{_≡_};
 ghost use lib.ListN.{length, getD};
 ghost use Rattle.kinds.specs.Answers.{Answer.given};
 ghost use Rattle.kinds.specs.Refusals.{numberOf, placeOf, listOf};
 ghost use Rattle.rounds.specs.Answers.{kindOf, faultPlace, verdictSaid};
-ghost use Rattle.weakness.specs.Answers.{spotStations, foundStanding};
+ghost use Rattle.parting.specs.Answers.{spotStations, foundStanding};
 ghost use Rattle.codes.specs.Codes.{letterNumber, kindSaid, roundSaid, faultPlaceSaid, weakSaid, spotSaid, oneSaid, twoSaid, writtenNumber, writtenCount};
 
 // A refusal: its number returned, its place and its list written.

@@ -6,7 +6,8 @@ use Rattle.kinds.specs.Answers.{Answer, Answer.given, Answer.refused}
 use Rattle.reading.specs.Reading.{Facts, fileRead, lineNumbers}
 use Rattle.report.specs.Text.{refusedText}
 use Rattle.standing.specs.Text.{weakText}
-use Rattle.weakness.specs.Standing.{Standing, weakAnswer}
+use Rattle.parting.specs.Standing.{Standing}
+use Rattle.weakness.specs.Search.{weakAnswer}
 
 -- Of a network whose search answered: whether it stands, or the refusal.
 unfoldable pub searchedText : ℕ → ℕ → ℕ → Answer Standing → List ℕ

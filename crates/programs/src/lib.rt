@@ -15,7 +15,7 @@ ghost use mathlib.Core.Bool.{false};
 ghost use Prim.Native.Nat.{_*_, _/_, _≤_, _<_};
 ghost use lib.ListN.{length};
 ghost use Rattle.report.specs.Answers.{writtenAnswer, writtenOver};
-ghost use Rattle.weakness.specs.Standing.{weakAnswer};
+ghost use Rattle.weakness.specs.Search.{weakAnswer};
 ghost use Rattle.programs.specs.Keep.{networkText, keepOutput};
 ghost use Rattle.programs.specs.Weak.{searchedText, weakOutput};
 ghost use Rattle.programs.specs.Texts.{TextAllows};

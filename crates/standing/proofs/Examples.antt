@@ -3,7 +3,7 @@
 use Prim.Native.Nat.{ℕ}
 use mathlib.Core.Path.{_≡_, refl}
 use mathlib.Core.List.{List, [], _∷_, _++_}
-use Rattle.weakness.specs.Standing.{Standing.stands, Standing.weak}
+use Rattle.parting.specs.Standing.{Standing.stands, Standing.weak}
 use Rattle.report.specs.Text.{digits, decimal}
 use Rattle.standing.specs.Text.{weakHeaderText, spotText, weakRowText, weakText}
 

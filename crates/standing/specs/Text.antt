@@ -5,7 +5,7 @@ use mathlib.Core.Bool.{Bool}
 use mathlib.Core.List.{List, [], _∷_, _++_}
 use lib.Dec.{ltb}
 use Rattle.report.specs.Text.{field, stationsText, levelText, linesText, fromText, newline}
-use Rattle.weakness.specs.Standing.{Standing, Standing.stands, Standing.weak}
+use Rattle.parting.specs.Standing.{Standing, Standing.stands, Standing.weak}
 
 -- "stations N level K lines M".
 unfoldable pub weakHeaderText : ℕ → ℕ → ℕ → List ℕ

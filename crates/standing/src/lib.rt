@@ -1,6 +1,9 @@
 // What the program weak writes: a header, then one row that tells whether the network stands.
 use kinds::Level;
 use kinds::Station;
+use parting::Found;
+use parting::Spot;
+use parting::WeakSpot;
 use report::Written;
 use report::put_count;
 use report::put_field;
@@ -9,15 +12,12 @@ use report::put_level;
 use report::put_newline;
 use report::put_stations;
 use report::put_word;
-use weakness::Found;
-use weakness::Spot;
-use weakness::WeakSpot;
 ghost use mathlib.Core.Path.{_≡_};
 ghost use Prim.Native.Nat.{_+_, _≤_};
 ghost use lib.ListN.{length};
 ghost use Rattle.report.specs.Answers.{writtenAnswer, writtenOver};
 ghost use Rattle.report.specs.Writing.{Puts};
-ghost use Rattle.weakness.specs.Answers.{spotStations, foundStanding};
+ghost use Rattle.parting.specs.Answers.{spotStations, foundStanding};
 ghost use Rattle.standing.specs.Text.{weakHeaderText, standsText, stationText, spotText, partsText, weakRowText, standingText, weakText, weakShort};
 
 // Writes the header at the front.

@@ -15,7 +15,8 @@ use Rattle.pieces.specs.Away.{isAway}
 use Rattle.pieces.specs.Pieces.{alone, merge, joinLine, piecesOf, onePiece}
 use Rattle.joined.specs.Asking.{awayJudged, allAwayJudged, askedJudged, joinedAnswer}
 use Rattle.unite.specs.Union.{addLine, united, listsJudged, unionJudged, unionShort, sizeAnswer, unionAnswer}
-use Rattle.weakness.specs.Standing.{lowestRemaining, lowestApart, without, withoutOnes, withoutSeconds, withoutTwos, weakSpot, weakJudged, weakAnswer}
+use Rattle.parting.specs.Standing.{lowestRemaining, lowestApart, without}
+use Rattle.weakness.specs.Search.{withoutOnes, withoutSeconds, withoutTwos, weakSpot, weakJudged, weakAnswer}
 use Rattle.certificate.proofs.Seven.{seven-forests}
 use Rattle.starred.specs.Examples.{Right, starred}
 

@@ -16,7 +16,8 @@ use Rattle.plans.specs.Plans.{InPlay, OfRank}
 use Rattle.joined.specs.Asking.{joinedAnswer}
 use Rattle.unite.specs.Union.{united, unionAnswer}
 use Rattle.certificate.specs.Seven.{seven, sevenRanks}
-use Rattle.weakness.specs.Standing.{Standing.stands, Standing.weak, weakAnswer}
+use Rattle.parting.specs.Standing.{Standing.stands, Standing.weak}
+use Rattle.weakness.specs.Search.{weakAnswer}
 
 -- Every statement of a list holds.
 abbrev pub Right : List (Type 0) → Type 0

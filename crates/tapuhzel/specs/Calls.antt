@@ -11,7 +11,7 @@ use Rattle.prune.specs.Pruning.{pruned, pruneAnswer}
 use Rattle.unite.specs.Union.{united, unionAnswer}
 use Rattle.joined.specs.Asking.{joinedAnswer}
 use Rattle.plans.specs.Checking.{checkAnswer}
-use Rattle.weakness.specs.Standing.{weakAnswer}
+use Rattle.weakness.specs.Search.{weakAnswer}
 use Rattle.reading.specs.Reading.{readAnswer, linesAfter, startsAfter}
 use Rattle.writing.specs.Writing.{writeAnswer, bytesAfter}
 use Rattle.report.specs.Answers.{writtenAnswer, writtenOver}

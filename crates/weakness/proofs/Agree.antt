@@ -17,8 +17,9 @@ use Rattle.pieces.specs.Away.{isAway}
 use Rattle.pieces.specs.Pieces.{onePiece}
 use Rattle.pieces.proofs.Chains.{one-piece-joined, joined-one-piece}
 use Rattle.certificate.specs.Alike.{Alike}
-use Rattle.weakness.specs.Standing.{Standing, Standing.stands, isWeak, lowestRemaining, lowestApart, without, withoutOnes, withoutSeconds, withoutTwos, weakSpot}
-use Rattle.weakness.proofs.Remaining.{lowest-remains, none-few, one-few, two-few}
+use Rattle.parting.specs.Standing.{Standing, Standing.stands, isWeak, lowestRemaining, lowestApart, without}
+use Rattle.weakness.specs.Search.{withoutOnes, withoutSeconds, withoutTwos, weakSpot}
+use Rattle.parting.proofs.Remaining.{lowest-remains, none-few, one-few, two-few}
 use Rattle.laws.proofs.Fold.{first-same, lowest-same}
 
 module _ {n k : ℕ} {lines lines′ : List ℕ} (sound : Sound n lines) (sound′ : Sound n lines′) (alike : Alike n k lines lines′) where

@@ -13,15 +13,16 @@ use Rattle.laws.specs.Fold.{pick, firstFrom}
 use Rattle.laws.proofs.Fold.{first-start, first-all, first-marked}
 use Rattle.laws.proofs.Truth.{same-truth}
 use Rattle.network.specs.Faults.{Sound}
-use Rattle.pieces.specs.Joined.{Remains, Whole, Parted}
+use Rattle.pieces.specs.Joined.{Remains, Whole}
 use Rattle.pieces.specs.Away.{isAway, isGone, Unmarked, Gone}
 use Rattle.neighbours.specs.Near.{Near}
 use Rattle.cuts.specs.Cuts.{andAway, SaysCuts}
-use Rattle.weakness.specs.Standing.{Standing, Standing.stands, Standing.weak, isWeak, without, withoutOnes, withoutSeconds}
-use Rattle.weakness.specs.Parting.{Parts}
-use Rattle.weakness.specs.Looking.{firstCut, single, pair, SaysWeak}
-use Rattle.weakness.proofs.Looking.{unmarked-gone, is-one, is-two, mark-one}
-use Rattle.weakness.proofs.Whole.{sturdy-whole, without-cases, whole-same}
+use Rattle.parting.specs.Standing.{Standing, Standing.stands, Standing.weak, isWeak, without}
+use Rattle.weakness.specs.Search.{withoutOnes, withoutSeconds}
+use Rattle.parting.specs.Parts.{Parts}
+use Rattle.weakness.specs.Cutting.{firstCut, single, pair, SaysWeak}
+use Rattle.parting.proofs.Looking.{unmarked-gone, is-one, is-two, mark-one}
+use Rattle.parting.proofs.Whole.{sturdy-whole, without-cases, whole-same}
 
 -- If no one station is found weak, each of them is not.
 pub ones-sturdy : (n : ℕ) (lines : List ℕ) → isWeak (withoutOnes n lines) ≡ false → (v : ℕ) → v < n → isWeak (without n lines (v ∷ [])) ≡ false

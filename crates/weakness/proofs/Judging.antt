@@ -10,8 +10,8 @@ use Rattle.limits.specs.Limits.{stationsJudged, lengthJudged, weakLevelJudged}
 use Rattle.network.specs.Judging.{linesJudged}
 use Rattle.limits.proofs.Limits.{weak-level-good}
 use Rattle.network.proofs.Sound.{within-taken, lines-only, parts-sound, sound-taken}
-use Rattle.weakness.specs.Standing.{weakJudged}
-use Rattle.weakness.specs.Parting.{Searchable}
+use Rattle.weakness.specs.Search.{weakJudged}
+use Rattle.weakness.specs.Spots.{Searchable}
 
 module _ (n k : ℕ) (lines : List ℕ) where
   -- THEOREM. What is taken may be searched.

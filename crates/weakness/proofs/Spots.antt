@@ -8,7 +8,8 @@ use mathlib.Core.Logic.{_⊎_, _⊎_.inl, _⊎_.inr}
 use native.Mathlib.Decide.{decLt}
 use native.Mathlib.Omega.{arith}
 use lib.ListN.{length}
-use Rattle.weakness.specs.Parting.{Parts, Earlier, Earlier.fewer, Earlier.first, Earlier.second, IsWeakSpot}
+use Rattle.parting.specs.Parts.{Parts}
+use Rattle.weakness.specs.Spots.{Earlier, Earlier.fewer, Earlier.first, Earlier.second, IsWeakSpot}
 
 -- One of two numbers is lower, or they are the same.
 lower-or-same : (v w : ℕ) → (v < w) ⊎ ((w < v) ⊎ (v ≡ w))

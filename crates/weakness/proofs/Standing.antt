@@ -5,7 +5,8 @@
 
 use mathlib.Core.Path.{_≡_, refl, sym}
 use mathlib.Core.Bool.{true, false, true≢false}
-use Rattle.weakness.specs.Standing.{Standing, Standing.stands, Standing.weak, isWeak, _orElse_}
+use Rattle.parting.specs.Standing.{Standing, Standing.stands, Standing.weak, isWeak}
+use Rattle.weakness.specs.Search.{_orElse_}
 
 pub else-weak : (a b : Standing) → isWeak a ≡ true → a orElse b ≡ a
 else-weak stands b e = absurd (true≢false (sym e))

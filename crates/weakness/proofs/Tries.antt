@@ -14,8 +14,9 @@ use borrow.Author.Tests.{le-leb, lt-leb}
 use lib.ListN.{length, getD}
 use Rattle.laws.proofs.Fold.{FoundAt, FoundNone, first-cases}
 use Rattle.pieces.specs.Away.{Rising}
-use Rattle.weakness.specs.Standing.{Standing.stands, isWeak, without, withoutOnes, withoutSeconds, withoutTwos, weakSpot}
-use Rattle.weakness.specs.Parting.{Tried, Earlier, Earlier.fewer, Earlier.first, Earlier.second}
+use Rattle.parting.specs.Standing.{Standing.stands, isWeak, without}
+use Rattle.weakness.specs.Search.{withoutOnes, withoutSeconds, withoutTwos, weakSpot}
+use Rattle.weakness.specs.Spots.{Tried, Earlier, Earlier.fewer, Earlier.first, Earlier.second}
 use Rattle.weakness.proofs.Standing.{else-weak, else-next}
 
 pub none-rising : (n : ℕ) → Rising n []

@@ -1,25 +1,10 @@
 -- What the search for a weak spot says, in the document's numbers.
 -- Assumes nothing.
-use Prim.Native.Nat.{ℕ}
-use mathlib.Core.List.{List, [], _∷_}
 use Rattle.kinds.specs.Answers.{Answer, Answer.given, refusalAnswer}
-use Rattle.weakness.specs.Standing.{Standing, Standing.stands, Standing.weak}
-use Rattle.weakness.specs.declared.Spot.{Spot}
-use Rattle.weakness.specs.declared.Spot.the-variants.{Empty, One, Two}
-use Rattle.weakness.specs.declared.Found.{Found}
-use Rattle.weakness.specs.declared.Found.the-variants.{Stands, Weak}
+use Rattle.parting.specs.Standing.{Standing}
+use Rattle.parting.specs.Answers.{foundStanding}
 use Rattle.weakness.specs.declared.Searched.{Searched}
 use Rattle.weakness.specs.declared.Searched.the-variants.{Decided, Refused}
-
--- The stations of a spot, in rising order.
-abbrev pub spotStations : Spot → List ℕ
-spotStations Empty = []
-spotStations (One v) = v .0 ∷ []
-spotStations (Two v w) = v .0 ∷ (w .0 ∷ [])
-
-abbrev pub foundStanding : Found → Standing
-foundStanding Stands = stands
-foundStanding (Weak w) = weak (spotStations (w .spot)) (w .one .0) (w .two .0)
 
 abbrev pub searchedAnswer : Searched → Answer Standing
 searchedAnswer (Decided found) = given (foundStanding found)

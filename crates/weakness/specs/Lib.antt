@@ -1,4 +1,4 @@
-pub mod Standing
+pub mod Search
+pub mod Spots
 pub mod Answers
-pub mod Looking
-pub mod Parting
+pub mod Cutting

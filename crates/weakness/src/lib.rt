@@ -13,174 +13,32 @@ use limits::judge_stations;
 use limits::judge_weak_level;
 use neighbours::lay_neighbours;
 use network::judge_list;
-use pieces::find_pieces;
+use parting::Found;
+use parting::is_weak;
+use parting::try_none;
+use parting::try_one;
+use parting::try_two;
 use prune::prune;
 ghost use mathlib.Core.Path.{_≡_};
 ghost use mathlib.Core.List.{List, [], _∷_};
 ghost use mathlib.Core.Bool.{false};
 ghost use Prim.Native.Nat.{ℕ, _+_, _≤_, _<_};
 ghost use lib.ListN.{length};
-ghost use Rattle.laws.specs.Fold.{lowest};
 ghost use Rattle.kinds.specs.Answers.{judgedAnswer};
 ghost use Rattle.network.specs.Faults.{Sound};
-ghost use Rattle.pieces.specs.Away.{isGone, Unmarked, Gone};
+ghost use Rattle.pieces.specs.Away.{Unmarked};
 ghost use Rattle.neighbours.specs.Near.{Near, Bound};
-ghost use Rattle.certificate.specs.Starts.{StartsIn};
-ghost use Rattle.weakness.specs.Standing.{isWeak, lowestRemaining, without, withoutOnes, withoutSeconds, withoutTwos, weakSpot, weakJudged, weakAnswer};
-ghost use Rattle.weakness.specs.Looking.{partedStanding, isApart, firstCut, pair, SaysWeak, withoutStations};
-ghost use Rattle.weakness.specs.Answers.{spotStations, foundStanding, searchedAnswer};
-
-// The stations of a weak spot, at most two, the lower first.
-pub enum Spot {
-    Empty,
-    One(Station),
-    Two(Station, Station),
-}
-
-// A weak spot: without its stations, station one is not joined to station two.
-pub struct WeakSpot {
-    pub spot: Spot,
-    pub one: Station,
-    pub two: Station,
-}
-
-// What is found of a network at a level.
-pub enum Found {
-    Stands,
-    Weak(WeakSpot),
-}
+ghost use Rattle.parting.specs.Standing.{isWeak, without};
+ghost use Rattle.parting.specs.Answers.{foundStanding};
+ghost use Rattle.weakness.specs.Search.{withoutOnes, withoutSeconds, withoutTwos, weakSpot, weakJudged, weakAnswer};
+ghost use Rattle.weakness.specs.Spots.{Searchable, Prunable};
+ghost use Rattle.weakness.specs.Cutting.{firstCut, pair, SaysWeak, withoutStations};
+ghost use Rattle.weakness.specs.Answers.{searchedAnswer};
 
 // What the search for a weak spot says: what it found, or why the input is refused.
 pub enum Searched {
     Decided(Found),
     Refused(Refusal),
-}
-
-// What is parted where some stations are taken away: nothing, or one station from another.
-enum Parted {
-    Whole,
-    Between(Station, Station),
-}
-
-// Whether a weak spot is found.
-fn is_weak(found: Found) -> bool
-    ensures weak { λ r. ⌜ r ≡ isWeak (foundStanding found) ⌝ }
-{
-    match found {
-        Found::Stands => false,
-        Found::Weak(_) => true,
-    }
-}
-
-// What is found where the stations of a spot are taken away.
-fn found_at(spot: Spot, parted: Parted) -> Found
-    ensures found { λ r. ⌜ foundStanding r ≡ partedStanding (spotStations spot) parted ⌝ }
-{
-    match parted {
-        Parted::Whole => Found::Stands,
-        Parted::Between(one, two) => Found::Weak(WeakSpot { spot, one, two }),
-    }
-}
-
-// The lowest station that is not marked; n where each is.
-fn lowest_remaining(n: usize, gone: &[bool]) -> Station
-    requires { ⌜ (n ≤ 1024) × (length (now gone) ≡ n) ⌝ }
-    ensures lowest { λ r. ⌜ r .0 ≡ lowestRemaining n (isGone (now (gone .entry))) ⌝ }
-{
-    for a in 0..n {
-        if !gone[a] {
-            return Station(a as u16);
-        }
-    }
-    Station(n as u16)
-}
-
-// Whether a station remains and is of another piece than the first.
-fn is_apart(one: Station, two: Station, gone: &[bool], pieces: &[u16]) -> bool
-    requires { ⌜ (one .0 < length (now pieces)) × (two .0 < length (now pieces)) × (length (now gone) ≡ length (now pieces)) ⌝ }
-    ensures apart { λ r. ⌜ r ≡ isApart (now (gone .entry)) (now (pieces .entry)) (one .0) (two .0) ⌝ }
-{
-    let a = one.0 as usize;
-    let b = two.0 as usize;
-    if gone[b] {
-        return false;
-    }
-    pieces[a] != pieces[b]
-}
-
-// The lowest station that remains and is of another piece than the first; n where there is none.
-fn lowest_apart(n: usize, one: Station, gone: &[bool], pieces: &[u16]) -> Station
-    requires { ⌜ (n ≤ 1024) × (one .0 < n) × (length (now gone) ≡ n) × (length (now pieces) ≡ n) ⌝ }
-    ensures lowest { λ r. ⌜ r .0 ≡ lowest (isApart (now (gone .entry)) (now (pieces .entry)) (one .0)) n n ⌝ }
-{
-    for b in 0..n {
-        let two = Station(b as u16);
-        if is_apart(one, two, gone, pieces) {
-            return two;
-        }
-    }
-    Station(n as u16)
-}
-
-// Looks whether what remains is parted: the lowest remaining station from the lowest that is not joined to it.
-fn look(n: usize, lines: &[u16], gone: &[bool], pieces: &mut [u16]) -> Parted
-    requires { ⌜ Sound n (now lines) × (length (now gone) ≡ n) × (length (now pieces) ≡ n) ⌝ }
-    ensures parted { λ r. ⌜ ((spot : List ℕ) → Gone spot (now (gone .entry)) → partedStanding spot r ≡ without n (now (lines .entry)) spot) ⌝ }
-{
-    let one = lowest_remaining(n, gone);
-    if n <= one.0 as usize {
-        return Parted::Whole;
-    }
-    find_pieces(n, lines, gone, pieces);
-    let two = lowest_apart(n, one, gone, pieces);
-    if n <= two.0 as usize {
-        return Parted::Whole;
-    }
-    Parted::Between(one, two)
-}
-
-// No station is taken away.
-fn try_none(n: usize, lines: &[u16], gone: &[bool], pieces: &mut [u16]) -> Found
-    requires { ⌜ Sound n (now lines) × (length (now gone) ≡ n) × Unmarked (now gone) × (length (now pieces) ≡ n) ⌝ }
-    ensures found { λ r. ⌜ foundStanding r ≡ without n (now (lines .entry)) [] ⌝ }
-{
-    found_at(Spot::Empty, look(n, lines, gone, pieces))
-}
-
-// One station is taken away, and put back.
-fn try_one(n: usize, lines: &[u16], one: Station, gone: &mut [bool], pieces: &mut [u16]) -> Found
-    requires { ⌜ Sound n (now lines) × (length (now gone) ≡ n) × Unmarked (now gone) × (length (now pieces) ≡ n) × (one .0 < n) ⌝ }
-    ensures found { λ r. ⌜ foundStanding r ≡ without n (now (lines .entry)) (one .0 ∷ []) ⌝ }
-    ensures gone { λ _. ⌜ Unmarked (now (gone .exit)) ⌝ }
-{
-    let a = one.0 as usize;
-    gone[a] = true;
-    let parted = look(n, lines, gone, pieces);
-    gone[a] = false;
-    found_at(Spot::One(one), parted)
-}
-
-// Two stations are taken away, and put back.
-fn try_two(
-    n: usize,
-    lines: &[u16],
-    one: Station,
-    two: Station,
-    gone: &mut [bool],
-    pieces: &mut [u16],
-) -> Found
-    requires { ⌜ Sound n (now lines) × (length (now gone) ≡ n) × Unmarked (now gone) × (length (now pieces) ≡ n) × (one .0 < n) × (two .0 < n) ⌝ }
-    ensures found { λ r. ⌜ foundStanding r ≡ without n (now (lines .entry)) (one .0 ∷ (two .0 ∷ [])) ⌝ }
-    ensures gone { λ _. ⌜ Unmarked (now (gone .exit)) ⌝ }
-{
-    let a = one.0 as usize;
-    let b = two.0 as usize;
-    gone[a] = true;
-    gone[b] = true;
-    let parted = look(n, lines, gone, pieces);
-    gone[a] = false;
-    gone[b] = false;
-    found_at(Spot::Two(one, two), parted)
 }
 
 // The first station from a given one on that is marked as a cut station; n where there is none.
@@ -318,11 +176,11 @@ fn search_stations(
     gone: &mut [bool],
     pieces: &mut [u16],
 ) -> Found
-    requires { ⌜ Sound n (now lines) × (length (now gone) ≡ n) × Unmarked (now gone) × (length (now pieces) ≡ n) × (isWeak (without n (now lines) []) ≡ false) ⌝ }
+    requires { ⌜ Sound n (now lines) × (length (now gone) ≡ n) × Unmarked (now gone) × (length (now pieces) ≡ n) × (isWeak (without n (now lines) []) ≡ false) × (length (now lines) ≤ 6144) ⌝ }
     ensures found { λ r. ⌜ foundStanding r ≡ withoutStations n (level .0) (now (lines .entry)) ⌝ }
 {
     let mut begins = [0u16; 1025];
-    let mut near = [0u16; 16384];
+    let mut near = [0u16; 6144];
     let mut cut = [false; 1024];
     let rooms = n + 1;
     let size = lines.len();
@@ -340,7 +198,7 @@ fn search_stations(
 
 // Fewer stations than the level, fewest first, with marks of which none is set and a table of n entries to work in.
 fn search(n: usize, level: Level, lines: &[u16], gone: &mut [bool], pieces: &mut [u16]) -> Found
-    requires { ⌜ Sound n (now lines) × (length (now gone) ≡ n) × Unmarked (now gone) × (length (now pieces) ≡ n) ⌝ }
+    requires { ⌜ Sound n (now lines) × (length (now gone) ≡ n) × Unmarked (now gone) × (length (now pieces) ≡ n) × (length (now lines) ≤ 6144) ⌝ }
     ensures found { λ r. ⌜ foundStanding r ≡ weakSpot n (level .0) (now (lines .entry)) ⌝ }
 {
     let none = try_none(n, lines, gone, pieces);
@@ -353,9 +211,9 @@ fn search(n: usize, level: Level, lines: &[u16], gone: &mut [bool], pieces: &mut
     search_stations(n, level, lines, gone, pieces)
 }
 
-// The search over any sound list, with fresh work arrays.
+// The search over a list of so few lines as pruning keeps at level 3, with fresh work arrays.
 fn search_list(n: usize, level: Level, lines: &[u16]) -> Found
-    requires { ⌜ Sound n (now lines) ⌝ }
+    requires { ⌜ Sound n (now lines) × (length (now lines) ≤ 6144) ⌝ }
     ensures found { λ r. ⌜ foundStanding r ≡ weakSpot n (level .0) (now (lines .entry)) ⌝ }
 {
     let mut gone = [false; 1024];
@@ -364,7 +222,7 @@ fn search_list(n: usize, level: Level, lines: &[u16]) -> Found
 }
 
 // The search over the lines that pruning keeps: what is taken away there parts the same stations. Neither pruning nor copying
-// refuses here, since the list is sound, the starts are stations and the buffers have room.
+// refuses here, since the list is sound, the starts are stations and the buffers have room: at most 3 times 1,023 lines are kept.
 fn search_kept(
     n: usize,
     level: Level,
@@ -374,7 +232,7 @@ fn search_kept(
     orders: &mut [u16],
     kept: &mut [u16],
 ) -> Found
-    requires { ⌜ Sound n (now lines) × (1 ≤ level .0) × (level .0 ≤ 3) × (length (now starts) ≡ level .0) × StartsIn n (level .0) (now starts) × (length (now ranks) ≡ 8192) × (length (now orders) ≡ 3072) × (length (now kept) ≡ 16384) ⌝ }
+    requires { ⌜ Prunable n (level .0) (now lines) (now starts) × (length (now ranks) ≡ 8192) × (length (now orders) ≡ 3072) × (length (now kept) ≡ 6144) ⌝ }
     ensures found { λ r. ⌜ foundStanding r ≡ weakSpot n (level .0) (now (lines .entry)) ⌝ }
 {
     prune(n, level, lines, starts, ranks, orders);
@@ -386,13 +244,13 @@ fn search_kept(
 
 // The search over a network that is not refused, pruned from station 0 in every round, with fresh buffers.
 fn search_network(n: usize, level: Level, lines: &[u16]) -> Found
-    requires { ⌜ Sound n (now lines) × (1 ≤ level .0) × (level .0 ≤ 3) ⌝ }
+    requires { ⌜ Searchable n (level .0) (now lines) ⌝ }
     ensures found { λ r. ⌜ foundStanding r ≡ weakSpot n (level .0) (now (lines .entry)) ⌝ }
 {
     let starts = [0u16; 3];
     let mut ranks = [0u8; 8192];
     let mut orders = [0u16; 3072];
-    let mut kept = [0u16; 16384];
+    let mut kept = [0u16; 6144];
     let k = level.0;
     search_kept(
         n,

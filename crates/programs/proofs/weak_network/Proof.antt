@@ -6,8 +6,8 @@ use borrow.Author.Tests.{le-ltb}
 use borrow.Author.Needs.{needs}
 use lib.ListN.{length}
 use lib.Dec.{ltb}
-use Rattle.weakness.specs.Standing.{weakAnswer}
-use Rattle.weakness.specs.Answers.{foundStanding}
+use Rattle.weakness.specs.Search.{weakAnswer}
+use Rattle.parting.specs.Answers.{foundStanding}
 use Rattle.report.specs.Answers.{refusedShort}
 use Rattle.standing.specs.Text.{weakShort}
 use Rattle.kinds.specs.Answers.{Answer.given, refusalAnswer}

@@ -4,7 +4,7 @@ use Prim.Native.Nat.{ℕ, _<_, _≤_}
 use mathlib.Core.Path.{_≡_, sym, subst, _∙_}
 use lib.ListN.{length, length-set}
 use Rattle.neighbours.specs.Near.{Bound}
-use Rattle.weakness.proofs.Looking.{clear-one}
+use Rattle.parting.proofs.Looking.{clear-one}
 use Rattle.weakness.proofs.Cutting.{seconds-weak}
 use borrow.Author.Needs.{needs}
 use Rattle.weakness.proofs.find_seconds.Statement.{statement}

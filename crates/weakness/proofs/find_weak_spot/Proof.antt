@@ -1,7 +1,7 @@
 -- `weakness::find_weak_spot` meets its contract. What is not refused is a sound list and a level from 1 to 3, so it can be searched.
 -- Assumes nothing.
 use Rattle.weakness.proofs.Judging.{weak-good}
-use Rattle.weakness.specs.Standing.{weakJudged, weakAnswer}
+use Rattle.weakness.specs.Search.{weakJudged, weakAnswer}
 use Rattle.kinds.specs.Answers.{Answer.given, taken, refusalAnswer}
 use mathlib.Core.Path.{_≡_, sym, ap, _∙_}
 use Prim.Native.Nat.{_-_}
@@ -29,8 +29,7 @@ search-network-requires : tie.Need-search-network-requires
 search-network-requires c κs =
     let a = c .before .before .before .before .args in
     let e : weakJudged (a .n) (a .level .0) (a .lines .now) ≡ taken = sym (c .before .before .judge-weak .ensures) ∙ rw (c .enum-told .given .1) in
-    let g = weak-good (a .n) (a .level .0) (a .lines .now) e in
-    (g .sound, g .some, g .most)
+    weak-good (a .n) (a .level .0) (a .lines .now) e
 
 returns-2 : tie.Need-returns-2
 unfolding weakAnswer

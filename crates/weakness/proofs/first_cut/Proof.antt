@@ -8,7 +8,7 @@ use mathlib.Core.Bool.{Bool, false}
 use lib.ListN.{length, getD}
 use Rattle.laws.specs.Fold.{firstFrom}
 use Rattle.laws.proofs.Fold.{first-next, first-here, first-none}
-use Rattle.weakness.specs.Looking.{firstCut}
+use Rattle.weakness.specs.Cutting.{firstCut}
 use Rattle.weakness.proofs.first_cut.Statement.{statement}
 use Rattle.weakness.proofs.first_cut.Tie as tie
 

@@ -4,7 +4,7 @@ use mathlib.Core.Path.{_∙_}
 use Rattle.kinds.proofs.Answers.{then-said, then-again}
 use Rattle.limits.specs.Limits.{stationsJudged, lengthJudged, weakLevelJudged}
 use Rattle.network.specs.Judging.{linesJudged, listJudged}
-use Rattle.weakness.specs.Standing.{weakJudged}
+use Rattle.weakness.specs.Search.{weakJudged}
 use borrow.Author.Needs.{needs}
 use Rattle.weakness.proofs.judge_weak.Statement.{statement}
 use Rattle.weakness.proofs.judge_weak.Tie as tie

@@ -5,8 +5,9 @@ use mathlib.Core.Path.{_≡_, sym, ap, _∙_}
 use mathlib.Core.List.{[]}
 use mathlib.Core.Bool.{true, false}
 use borrow.Author.Tests.{le-leb, lt-leb}
-use Rattle.weakness.specs.Standing.{isWeak, without, weakSpot}
-use Rattle.weakness.specs.Looking.{withoutStations}
+use Rattle.parting.specs.Standing.{isWeak, without}
+use Rattle.weakness.specs.Search.{weakSpot}
+use Rattle.weakness.specs.Cutting.{withoutStations}
 use Rattle.weakness.proofs.Standing.{else-weak, else-next}
 use Rattle.weakness.proofs.search.Statement.{statement}
 use Rattle.weakness.proofs.search.Tie as tie
@@ -51,7 +52,7 @@ search-stations-requires : tie.Need-search-stations-requires
 search-stations-requires c κs =
     let s = c .before .before .before .before .before .before .before .before .before .before .before .before .before .before in
     let e : isWeak (without (s .args .n) (s .args .lines .now) []) ≡ false = ap isWeak (sym (c .before .before .before .before .before .before .before .before .try-none .ensures)) ∙ (sym (c .before .before .before .before .before .is-weak .ensures) ∙ c .before .before .before .before .if1 .left) in
-    (s .pre .0, s .pre .1, s .pre .2, c .before .before .before .before .before .before .before .before .try-none .kept .1 .1 .1 .0 ∙ s .pre .3, e)
+    (s .pre .0, s .pre .1, s .pre .2, c .before .before .before .before .before .before .before .before .try-none .kept .1 .1 .1 .0 ∙ s .pre .3, e, s .pre .4)
 
 same-length-5 : tie.Need-same-length-5
 same-length-5 c = search needs

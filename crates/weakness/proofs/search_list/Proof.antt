@@ -9,22 +9,22 @@ use Rattle.weakness.proofs.search_list.Statement.{statement}
 use Rattle.weakness.proofs.search_list.Tie as tie
 
 array-borrow-prefix-gone : tie.Need-array-borrow-prefix-gone
-array-borrow-prefix-gone c = c .before .pre .within .most
+array-borrow-prefix-gone c = c .before .pre .0 .within .most
 
 slice-aggregate-search : tie.Need-slice-aggregate-search
-slice-aggregate-search c = sym (length-take-le (c .before .before .args .n) _ (c .before .before .pre .within .most))
+slice-aggregate-search c = sym (length-take-le (c .before .before .args .n) _ (c .before .before .pre .0 .within .most))
 
 array-borrow-prefix-pieces : tie.Need-array-borrow-prefix-pieces
-array-borrow-prefix-pieces c = c .before .before .pre .within .most
+array-borrow-prefix-pieces c = c .before .before .pre .0 .within .most
 
 slice-aggregate-search-2 : tie.Need-slice-aggregate-search-2
-slice-aggregate-search-2 c = sym (length-take-le (c .before .before .before .args .n) _ (c .before .before .before .pre .within .most))
+slice-aggregate-search-2 c = sym (length-take-le (c .before .before .before .args .n) _ (c .before .before .before .pre .0 .within .most))
 
 search-requires : tie.Need-search-requires
 search-requires c κs =
     let n = c .before .before .before .args .n in
-    let most = c .before .before .before .pre .within .most in
-    (c .before .before .before .pre, length-take-le n _ most, unmarked-part n (replicate 1024 false) most (unmarked-array 1024), length-take-le n _ most)
+    let most = c .before .before .before .pre .0 .within .most in
+    (c .before .before .before .pre .0, length-take-le n _ most, unmarked-part n (replicate 1024 false) most (unmarked-array 1024), length-take-le n _ most, c .before .before .before .pre .1)
 
 returns : tie.Need-returns
 returns c = c .before .before .search .ensures

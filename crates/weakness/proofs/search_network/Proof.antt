@@ -10,10 +10,10 @@ use Rattle.weakness.proofs.search_network.Statement.{statement}
 use Rattle.weakness.proofs.search_network.Tie as tie
 
 array-share-prefix-starts : tie.Need-array-share-prefix-starts
-array-share-prefix-starts c = c .before .pre .2
+array-share-prefix-starts c = c .before .pre .most
 
 slice-aggregate-search-kept : tie.Need-slice-aggregate-search-kept
-slice-aggregate-search-kept c = sym (length-take-le (c .before .before .args .level .0) _ (c .before .before .pre .2))
+slice-aggregate-search-kept c = sym (length-take-le (c .before .before .args .level .0) _ (c .before .before .pre .most))
 
 slice-aggregate-search-kept-2 : tie.Need-slice-aggregate-search-kept-2
 slice-aggregate-search-kept-2 c = search needs
@@ -27,8 +27,16 @@ slice-aggregate-search-kept-4 c = search needs
 search-kept-requires : tie.Need-search-kept-requires
 search-kept-requires c κs =
     let a = c .before .before .before .before .before .args in
-    let p = c .before .before .before .before .before .pre in
-    (p .0, p .1, p .2, length-take-le (a .level .0) _ (p .2), (λ i l. rw (getD-take {A = ℕ} (a .level .0) (replicate 3 0) i 0 l, replicate-at {A = ℕ} 3 i 0) (omega (arith, p .0 .within .some))), refl, refl, refl)
+    let p = c .before .before .before .before .before .pre in (
+      record {
+        searchable = p;
+        count = length-take-le (a .level .0) _ (p .most);
+        starts-in = λ i l. rw (getD-take {A = ℕ} (a .level .0) (replicate 3 0) i 0 l, replicate-at {A = ℕ} 3 i 0) (omega (arith, p .sound .within .some));
+      },
+      refl,
+      refl,
+      refl,
+    )
 
 returns : tie.Need-returns
 returns c = c .before .before .before .search-kept .ensures

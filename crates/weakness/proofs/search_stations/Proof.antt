@@ -21,7 +21,7 @@ array-borrow-prefix-near : tie.Need-array-borrow-prefix-near
 array-borrow-prefix-near c = search needs
 
 slice-aggregate-try-stations-2 : tie.Need-slice-aggregate-try-stations-2
-slice-aggregate-try-stations-2 c = let s = c .before .before .before .before .before in sym (length-take-le (length (s .args .lines .now)) _ (s .pre .0 .within .few))
+slice-aggregate-try-stations-2 c = let s = c .before .before .before .before .before in sym (length-take-le (length (s .args .lines .now)) _ (s .pre .5))
 
 array-borrow-prefix-cut : tie.Need-array-borrow-prefix-cut
 array-borrow-prefix-cut c = search needs
@@ -34,7 +34,7 @@ try-stations-requires c κs =
     let s = c .before .before .before .before .before .before .before .before in
     let p = s .pre in
     let w = p .0 .within in
-    (p .0, p .1, p .2, p .3, p .4, length-take-le (s .args .n + 1) _ (omega (arith, w .most)), length-take-le (length (s .args .lines .now)) _ (w .few), length-take-le (s .args .n) _ (w .most))
+    (p .0, p .1, p .2, p .3, p .4, length-take-le (s .args .n + 1) _ (omega (arith, w .most)), length-take-le (length (s .args .lines .now)) _ (p .5), length-take-le (s .args .n) _ (w .most))
 
 same-length : tie.Need-same-length
 same-length c = search needs

@@ -7,8 +7,8 @@ use mathlib.Core.Path.{_≡_, sym, ap, subst, _∙_}
 use mathlib.Core.List.{[], _∷_}
 use lib.ListN.{length}
 use Rattle.neighbours.specs.Near.{Bound}
-use Rattle.weakness.specs.Standing.{Standing, without}
-use Rattle.weakness.specs.Looking.{firstCut}
+use Rattle.parting.specs.Standing.{Standing, without}
+use Rattle.weakness.specs.Cutting.{firstCut}
 use Rattle.weakness.proofs.Cutting.{ones-weak, ones-none, ones-first}
 use Rattle.weakness.proofs.try_ones.Statement.{statement}
 use Rattle.weakness.proofs.try_ones.Tie as tie

@@ -6,8 +6,8 @@ use Prim.Native.Nat.{ℕ, _+_, _≤_, _<_}
 use mathlib.Core.Path.{_≡_, sym, ap, _∙_}
 use mathlib.Core.List.{[], _∷_}
 use lib.ListN.{length}
-use Rattle.weakness.specs.Standing.{Standing, without}
-use Rattle.weakness.specs.Looking.{firstCut}
+use Rattle.parting.specs.Standing.{Standing, without}
+use Rattle.weakness.specs.Cutting.{firstCut}
 use Rattle.weakness.proofs.Cutting.{seconds-none, seconds-first}
 use Rattle.weakness.proofs.try_seconds.Statement.{statement}
 use Rattle.weakness.proofs.try_seconds.Tie as tie

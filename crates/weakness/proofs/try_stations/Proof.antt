@@ -4,8 +4,9 @@ use native.Mathlib.Omega.{arith}
 use mathlib.Core.Path.{_≡_, sym, ap, _∙_}
 use mathlib.Core.Bool.{true, false}
 use borrow.Author.Tests.{le-leb, lt-leb}
-use Rattle.weakness.specs.Standing.{Standing.stands, isWeak, withoutOnes, withoutTwos}
-use Rattle.weakness.specs.Looking.{withoutStations}
+use Rattle.parting.specs.Standing.{Standing.stands, isWeak}
+use Rattle.weakness.specs.Search.{withoutOnes, withoutTwos}
+use Rattle.weakness.specs.Cutting.{withoutStations}
 use Rattle.weakness.proofs.Standing.{else-weak, else-next}
 use Rattle.weakness.proofs.try_stations.Statement.{statement}
 use Rattle.weakness.proofs.try_stations.Tie as tie

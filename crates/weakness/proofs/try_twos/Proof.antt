@@ -9,7 +9,8 @@ use lib.ListN.{length}
 use Rattle.laws.specs.Fold.{firstFrom}
 use Rattle.laws.proofs.Fold.{first-start, first-next, first-here, first-none}
 use Rattle.pieces.specs.Away.{Unmarked}
-use Rattle.weakness.specs.Standing.{Standing, Standing.stands, isWeak, withoutSeconds, withoutTwos}
+use Rattle.parting.specs.Standing.{Standing, Standing.stands, isWeak}
+use Rattle.weakness.specs.Search.{withoutSeconds, withoutTwos}
 use Rattle.weakness.proofs.Cutting.{ones-sturdy}
 use Rattle.weakness.proofs.try_twos.Statement.{statement}
 use Rattle.weakness.proofs.try_twos.Tie as tie

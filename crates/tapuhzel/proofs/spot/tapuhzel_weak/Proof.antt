@@ -1,7 +1,7 @@
 -- `tapuhzel::spot::tapuhzel_weak` meets its contract. In each arm the answer is that arm's constructor, and each number is the code of it.
 -- Assumes nothing.
-use Rattle.weakness.specs.Standing.{weakAnswer}
-use Rattle.weakness.specs.Answers.{foundStanding}
+use Rattle.weakness.specs.Search.{weakAnswer}
+use Rattle.parting.specs.Answers.{foundStanding}
 use Rattle.kinds.specs.Answers.{Answer.given, refusalAnswer}
 use mathlib.Core.Path.{_≡_, sym, _∙_}
 use borrow.Author.Needs.{needs}

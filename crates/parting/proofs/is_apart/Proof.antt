@@ -1,7 +1,7 @@
--- `weakness::is_apart` meets its contract. Each return rewrites by the test that led to it. Assumes nothing.
+-- `parting::is_apart` meets its contract. Each return rewrites by the test that led to it. Assumes nothing.
 use borrow.Author.Needs.{needs}
-use Rattle.weakness.proofs.is_apart.Statement.{statement}
-use Rattle.weakness.proofs.is_apart.Tie as tie
+use Rattle.parting.proofs.is_apart.Statement.{statement}
+use Rattle.parting.proofs.is_apart.Tie as tie
 
 cast-a : tie.Need-cast-a
 cast-a c = search needs

@@ -1,13 +1,13 @@
--- `weakness::try_two` meets its contract. Two marks are set for the look, and taken out again. Assumes nothing.
+-- `parting::try_two` meets its contract. Two marks are set for the look, and taken out again. Assumes nothing.
 use lib.ListN.{length, length-set}
-use Rattle.weakness.proofs.Looking.{mark-two, clear-two}
+use Rattle.parting.proofs.Looking.{mark-two, clear-two}
 use mathlib.Core.Path.{_∙_}
 use mathlib.Core.List.{[], _∷_}
 use Prim.Native.Nat.{_-_, _<_}
 use native.Mathlib.Omega.{arith}
 use borrow.Author.Needs.{needs}
-use Rattle.weakness.proofs.try_two.Statement.{statement}
-use Rattle.weakness.proofs.try_two.Tie as tie
+use Rattle.parting.proofs.try_two.Statement.{statement}
+use Rattle.parting.proofs.try_two.Tie as tie
 
 cast-a : tie.Need-cast-a
 cast-a c = search needs

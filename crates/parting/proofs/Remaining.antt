@@ -1,10 +1,5 @@
 -- The lowest remaining station, and how few stations a set of the search takes away.
 -- Assumes nothing.
-
--- ── the lowest remaining station ──
-
--- Where a station remains, the lowest one does, and it is no higher.
-
 use Prim.Native.Nat.{ℕ, _<_, _≤_}
 use mathlib.Core.Path.{_≡_, refl, sym, _∙_}
 use mathlib.Core.Bool.{Bool, not, _||_, true≢false}
@@ -20,9 +15,12 @@ use Rattle.laws.proofs.Count.{total-same, count-none, count-equal, count-or}
 use Rattle.laws.proofs.Fold.{FoundAt, FoundNone, first-cases}
 use Rattle.pieces.specs.Joined.{Remains}
 use Rattle.pieces.specs.Away.{isAway}
-use Rattle.weakness.specs.Standing.{lowestRemaining}
-use Rattle.weakness.proofs.Looking.{is-one, is-two}
+use Rattle.parting.specs.Standing.{lowestRemaining}
+use Rattle.parting.proofs.Looking.{is-one, is-two}
 
+-- ── the lowest remaining station ──
+
+-- Where a station remains, the lowest one does, and it is no higher.
 pub record LowestRemains (n : ℕ) (away : ℕ → Bool) (a : ℕ) : Type 0 where
   pub remains : Remains n away a
   pub lowest : (v : ℕ) → Remains n away v → a ≤ v

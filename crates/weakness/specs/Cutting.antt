@@ -1,25 +1,14 @@
--- How the search speaks of its helpers' answers: what is parted where some stations are taken away.
+-- How the search speaks of the tables of its passes: which station, with those taken away already, parts two others.
 -- Assumes nothing.
 use Prim.Native.Nat.{ℕ, _-_, _<_, _≤_}
 use mathlib.Core.Path.{_≡_}
-use mathlib.Core.Bool.{Bool, false, not, _&&_}
+use mathlib.Core.Bool.{Bool, false}
 use mathlib.Core.List.{List, [], _∷_}
 use lib.ListN.{length, getD}
-use lib.Dec.{eqb, leb}
+use lib.Dec.{leb}
 use Rattle.laws.specs.Fold.{pick, firstFrom}
-use Rattle.pieces.specs.Away.{isGone}
-use Rattle.weakness.specs.Standing.{Standing, Standing.stands, Standing.weak, isWeak, _orElse_, without, withoutOnes, withoutTwos}
-use Rattle.weakness.specs.declared.Parted.{Parted}
-use Rattle.weakness.specs.declared.Parted.the-variants.{Whole, Between}
-
--- What is found where the stations of a list are taken away.
-abbrev pub partedStanding : List ℕ → Parted → Standing
-partedStanding spot Whole = stands
-partedStanding spot (Between a b) = weak spot (a .0) (b .0)
-
--- By the marks and the table of pieces: station v remains, and is of another piece than a.
-abbrev pub isApart : List Bool → List ℕ → ℕ → ℕ → Bool
-isApart gone pieces a v = not (isGone gone v) && not (eqb (getD pieces a 0) (getD pieces v 0))
+use Rattle.parting.specs.Standing.{Standing, Standing.stands, isWeak, without}
+use Rattle.weakness.specs.Search.{_orElse_, withoutOnes, withoutTwos}
 
 -- The first station from v on that a table marks; as many as there are entries where it marks none.
 unfoldable pub firstCut : List Bool → ℕ → ℕ

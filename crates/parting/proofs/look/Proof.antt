@@ -1,10 +1,10 @@
--- `weakness::look` meets its contract. The marks say which stations of the list are taken away, so the pieces found by them are the
+-- `parting::look` meets its contract. The marks say which stations of the list are taken away, so the pieces found by them are the
 -- definition's. Assumes nothing.
-use Rattle.weakness.proofs.Looking.{looked-none, looked-whole, looked-apart}
+use Rattle.parting.proofs.Looking.{looked-none, looked-whole, looked-apart}
 use native.Mathlib.Omega.{arith}
 use borrow.Author.Needs.{needs}
-use Rattle.weakness.proofs.look.Statement.{statement}
-use Rattle.weakness.proofs.look.Tie as tie
+use Rattle.parting.proofs.look.Statement.{statement}
+use Rattle.parting.proofs.look.Tie as tie
 
 lowest-remaining-requires : tie.Need-lowest-remaining-requires
 lowest-remaining-requires c κs = search needs

@@ -1,6 +1,6 @@
--- `weakness::lowest_remaining` meets its contract. The loop's invariant: the lowest station that remains from a on is the lowest of all.
+-- `parting::lowest_remaining` meets its contract. The loop's invariant: the lowest station that remains from a on is the lowest of all.
 -- The measure is n - a. Assumes nothing.
-use Rattle.weakness.specs.Standing.{lowestRemaining}
+use Rattle.parting.specs.Standing.{lowestRemaining}
 use Rattle.pieces.specs.Away.{isGone}
 use Rattle.laws.proofs.Fold.{first-start, first-next, first-here, first-none}
 use Rattle.laws.specs.Fold.{firstFrom}
@@ -9,8 +9,8 @@ use mathlib.Core.Bool.{Bool, true, false, not}
 use Prim.Native.Nat.{ℕ, _-_, _≤_}
 use borrow.Author.Needs.{needs}
 use native.Mathlib.Omega.{arith}
-use Rattle.weakness.proofs.lowest_remaining.Statement.{statement}
-use Rattle.weakness.proofs.lowest_remaining.Tie as tie
+use Rattle.parting.proofs.lowest_remaining.Statement.{statement}
+use Rattle.parting.proofs.lowest_remaining.Tie as tie
 
 abbrev Inv-loop : tie.InvT-loop
 Inv-loop n gone v₀ v = (v ≤ n) × (lowestRemaining n (isGone gone) ≡ firstFrom (λ v. not (isGone gone v)) (λ v. v) n v (n - v))

@@ -1,45 +1,19 @@
 -- Whether a network stands at a level, and its weak spot otherwise, over the whole list.
 -- Assumes nothing.
 use Prim.Native.Nat.{ℕ, _+_, _-_}
-use mathlib.Core.Bool.{Bool, true, false, not, _&&_}
 use mathlib.Core.List.{List, [], _∷_}
-use lib.Dec.{ltb, leb}
-use Rattle.laws.specs.Fold.{pick, firstFrom, lowest}
+use lib.Dec.{leb}
+use Rattle.laws.specs.Fold.{pick, firstFrom}
 use Rattle.kinds.specs.Answers.{Answer, Answer.given, _andThen_}
 use Rattle.limits.specs.Limits.{stationsJudged, lengthJudged, weakLevelJudged}
 use Rattle.network.specs.Judging.{linesJudged}
-use Rattle.pieces.specs.Away.{isAway}
-use Rattle.pieces.specs.Pieces.{onePiece}
+use Rattle.parting.specs.Standing.{Standing, Standing.stands, Standing.weak, isWeak, without}
 
 infixr 30 _orElse_
--- The network stands, or a weak spot parts station a from station b.
-pub data Standing : Type 0 where
-  stands : Standing
-  weak : (spot : List ℕ) (a b : ℕ) → Standing
-
-abbrev pub isWeak : Standing → Bool
-isWeak stands = false
-isWeak (weak spot a b) = true
-
 -- The first try's weak spot, or what the tries after it say.
 abbrev pub _orElse_ : Standing → Standing → Standing
 _orElse_ stands next = next
 _orElse_ (weak spot a b) next = weak spot a b
-
--- The lowest remaining station; n where none remains.
-unfoldable pub lowestRemaining : ℕ → (ℕ → Bool) → ℕ
-lowestRemaining n away = lowest (λ v. not (away v)) n n
-
--- The lowest remaining station that is not joined to a; n where there is none.
-unfoldable pub lowestApart : ℕ → List ℕ → (ℕ → Bool) → ℕ → ℕ
-lowestApart n lines away a = lowest (λ v. not (away v) && not (onePiece n lines away a v)) n n
-
--- A set of stations is taken away: it is weak if the lowest remaining station has one that is not joined to it.
-unfoldable pub without : ℕ → List ℕ → List ℕ → Standing
-without n lines spot =
-    let a = lowestRemaining n (isAway spot) in
-    let b = lowestApart n lines (isAway spot) a in
-    pick (ltb b n) (weak spot a b) stands
 
 -- One station is taken away, the smallest number first.
 unfoldable pub withoutOnes : ℕ → List ℕ → Standing

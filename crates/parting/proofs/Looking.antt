@@ -16,8 +16,8 @@ use Rattle.network.specs.Lines.{network, Proper}
 use Rattle.pieces.specs.Away.{isGone, Unmarked, Gone, isAway}
 use Rattle.pieces.specs.Pieces.{piecesOf, onePiece}
 use Rattle.pieces.proofs.Pieces.{pieces-alike}
-use Rattle.weakness.specs.Standing.{Standing.stands, Standing.weak, lowestRemaining, lowestApart, without}
-use Rattle.weakness.specs.Looking.{isApart}
+use Rattle.parting.specs.Standing.{Standing.stands, Standing.weak, lowestRemaining, lowestApart, without}
+use Rattle.parting.specs.Looking.{isApart}
 
 -- ── the stations of a list, as marks ──
 

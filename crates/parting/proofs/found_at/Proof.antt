@@ -1,7 +1,7 @@
--- `weakness::found_at` meets its contract. Each arm rewrites by the variant it is in. Assumes nothing.
+-- `parting::found_at` meets its contract. Each arm rewrites by the variant it is in. Assumes nothing.
 use borrow.Author.Needs.{needs}
-use Rattle.weakness.proofs.found_at.Statement.{statement}
-use Rattle.weakness.proofs.found_at.Tie as tie
+use Rattle.parting.proofs.found_at.Statement.{statement}
+use Rattle.parting.proofs.found_at.Tie as tie
 
 enum-told : tie.Need-enum-told
 enum-told c = search needs

@@ -7,8 +7,10 @@ use mathlib.Core.List.{List}
 use lib.ListN.{length, getD}
 use Rattle.laws.specs.Count.{count}
 use Rattle.network.specs.Faults.{Sound}
-use Rattle.pieces.specs.Joined.{Remains, Joined, Whole}
+use Rattle.pieces.specs.Joined.{Whole}
 use Rattle.pieces.specs.Away.{isAway, Rising}
+use Rattle.certificate.specs.Starts.{StartsIn}
+use Rattle.parting.specs.Parts.{Parts}
 
 -- A sound list, and a level from 1 to 3.
 pub record Searchable (n k : ℕ) (lines : List ℕ) : Type 0 where
@@ -16,17 +18,15 @@ pub record Searchable (n k : ℕ) (lines : List ℕ) : Type 0 where
   pub some : 1 ≤ k
   pub most : k ≤ 3
 
+-- The same, with a starting station for each of k rounds: pruning takes it.
+pub record Prunable (n k : ℕ) (lines starts : List ℕ) : Type 0 where
+  pub searchable : Searchable n k lines
+  pub count : length starts ≡ k
+  pub starts-in : StartsIn n k starts
+
 -- "No set of fewer than k stations, taken away, leaves two stations not joined."
 pub record StandsAt (n k : ℕ) (lines : List ℕ) : Type 0 where
   pub whole : (away : ℕ → Bool) → count n away < k → Whole n lines away
-
--- a is the lowest remaining station, and b the lowest one that is not joined to it.
-pub record Parts (n : ℕ) (lines : List ℕ) (away : ℕ → Bool) (a b : ℕ) : Type 0 where
-  pub first : Remains n away a
-  pub lowest : (v : ℕ) → Remains n away v → a ≤ v
-  pub second : Remains n away b
-  pub apart : ¬ Joined n lines away a b
-  pub below : (v : ℕ) → Remains n away v → v < b → Joined n lines away a v
 
 -- A set of stations that is tried at level k: fewer than k, in rising order.
 pub record Tried (n k : ℕ) (spot : List ℕ) : Type 0 where

@@ -1,6 +1,6 @@
--- `weakness::lowest_apart` meets its contract. The loop's invariant: the lowest station apart from b on is the lowest of all. The measure
+-- `parting::lowest_apart` meets its contract. The loop's invariant: the lowest station apart from b on is the lowest of all. The measure
 -- is n - b. Assumes nothing.
-use Rattle.weakness.specs.Looking.{isApart}
+use Rattle.parting.specs.Looking.{isApart}
 use Rattle.laws.proofs.Fold.{first-start, first-next, first-here, first-none}
 use Rattle.laws.specs.Fold.{firstFrom, lowest}
 use mathlib.Core.Path.{_≡_, sym, _∙_}
@@ -8,8 +8,8 @@ use mathlib.Core.Bool.{true, false}
 use Prim.Native.Nat.{_-_, _≤_}
 use borrow.Author.Needs.{needs}
 use native.Mathlib.Omega.{arith}
-use Rattle.weakness.proofs.lowest_apart.Statement.{statement}
-use Rattle.weakness.proofs.lowest_apart.Tie as tie
+use Rattle.parting.proofs.lowest_apart.Statement.{statement}
+use Rattle.parting.proofs.lowest_apart.Tie as tie
 
 abbrev Inv-loop : tie.InvT-loop
 Inv-loop n one gone pieces v₀ v = (v ≤ n) × (lowest (isApart gone pieces (one .0)) n n ≡ firstFrom (isApart gone pieces (one .0)) (λ v. v) n v (n - v))

@@ -1,13 +1,13 @@
--- `weakness::try_one` meets its contract. One mark is set for the look, and taken out again. Assumes nothing.
+-- `parting::try_one` meets its contract. One mark is set for the look, and taken out again. Assumes nothing.
 use lib.ListN.{length}
-use Rattle.weakness.proofs.Looking.{mark-one, clear-one}
+use Rattle.parting.proofs.Looking.{mark-one, clear-one}
 use mathlib.Core.Path.{_∙_}
 use mathlib.Core.List.{[], _∷_}
 use Prim.Native.Nat.{_-_, _<_}
 use native.Mathlib.Omega.{arith}
 use borrow.Author.Needs.{needs}
-use Rattle.weakness.proofs.try_one.Statement.{statement}
-use Rattle.weakness.proofs.try_one.Tie as tie
+use Rattle.parting.proofs.try_one.Statement.{statement}
+use Rattle.parting.proofs.try_one.Tie as tie
 
 cast-a : tie.Need-cast-a
 cast-a c = search needs

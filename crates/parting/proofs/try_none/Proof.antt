@@ -1,11 +1,11 @@
--- `weakness::try_none` meets its contract. Where no mark is set, no station is taken away. Assumes nothing.
-use Rattle.weakness.proofs.Looking.{unmarked-gone}
+-- `parting::try_none` meets its contract. Where no mark is set, no station is taken away. Assumes nothing.
+use Rattle.parting.proofs.Looking.{unmarked-gone}
 use mathlib.Core.Path.{_∙_}
 use mathlib.Core.List.{[]}
 use Prim.Native.Nat.{_-_}
 use borrow.Author.Needs.{needs}
-use Rattle.weakness.proofs.try_none.Statement.{statement}
-use Rattle.weakness.proofs.try_none.Tie as tie
+use Rattle.parting.proofs.try_none.Statement.{statement}
+use Rattle.parting.proofs.try_none.Tie as tie
 
 look-requires : tie.Need-look-requires
 look-requires c κs = search needs

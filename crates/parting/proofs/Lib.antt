@@ -1,0 +1,4 @@
+pub mod Looking
+pub mod Remaining
+pub mod Whole
+pub mod Determined

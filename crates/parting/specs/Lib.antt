@@ -1,0 +1,4 @@
+pub mod Standing
+pub mod Parts
+pub mod Answers
+pub mod Looking
