@@ -1,2 +1,3 @@
 pub mod Determined
 pub mod Answers
+pub mod Rows
