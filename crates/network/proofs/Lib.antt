@@ -5,3 +5,4 @@ pub mod Sound
 pub mod Chains
 pub mod Longer
 pub mod Determined
+pub mod Rows

@@ -4,3 +4,4 @@ pub mod Judging
 pub mod Orders
 pub mod Faults
 pub mod Pairs
+pub mod Rows
