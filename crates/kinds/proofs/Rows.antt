@@ -11,8 +11,8 @@ use Rattle.kinds.specs.Answers.{Answer, Answer.given, Answer.refused, ta
 use Rattle.kinds.specs.Rows.{Rows, Row, Row.because, NoneOf, _thenTry_, _thenTry_.earlier, _thenTry_.later, EachOf, EachOf.at, Follows}
 use Rattle.kinds.proofs.Answers.{then-next, then-cases}
 
--- A refusal and its row are the same three numbers.
-refusal-row : {A holds : Type 0} {number place list number′ place′ list′ : ℕ} → _≡_ {A = Answer A} (refused number place list) (refused number′ place′ list′)
+-- A refusal by a row's three numbers is the row's where it holds; and what a row refuses holds, and has its numbers.
+pub refusal-row : {A holds : Type 0} {number place list number′ place′ list′ : ℕ} → _≡_ {A = Answer A} (refused number place list) (refused number′ place′ list′)
     → holds → Row holds number place list number′ place′ list′
 refusal-row {number} {place} {list} {number′} {place′} {list′} e h =
     let x : number ≡ number′ = cc in
@@ -21,16 +21,14 @@ refusal-row {number} {place} {list} {number′} {place′} {list′} e h =
     rw (x, y, z) (because h)
 
 row-refusal : {A holds : Type 0} {number place list number′ place′ list′ : ℕ} → Row holds number place list number′ place′ list′
-    → _≡_ {A = Answer A} (refused number place list) (refused number′ place′ list′)
-row-refusal (because h) = refl
-
-row-holds : {holds : Type 0} {number place list number′ place′ list′ : ℕ} → Row holds number place list number′ place′ list′ → holds
-row-holds (because h) = h
+    → holds × (_≡_ {A = Answer A} (refused number place list) (refused number′ place′ list′))
+row-refusal (because h) = (h, refl)
 
 -- A refusal where a test holds follows the row that the test tells exactly.
 pub row-follows : {b : Bool} {holds : Type 0} {number place list : ℕ} → (b ≡ true) ↔ holds → Follows (refuseIf b number place list) (Row holds number place list)
-row-follows {b = true} tells = record { exactly = (λ e. refusal-row e (tells .0 refl), λ r. row-refusal r) }
-row-follows {b = false} tells = record { exactly = (λ e. absurd (true≢false (sym (ap isRefused e))), λ r. absurd (true≢false (sym (tells .1 (row-holds r))))) }
+row-follows {b = true} tells = record { exactly = (λ e. refusal-row e (tells .0 refl), λ r. row-refusal r .1) }
+row-follows {b = false} tells =
+    record { exactly = (λ e. absurd (true≢false (sym (ap isRefused e))), λ r. absurd (true≢false (sym (tells .1 (row-refusal {A = Unit {0}} r .0))))) }
 
 -- An answer is not refused exactly where none of its rows holds.
 pub follows-none : {A : Type 0} {answer : Answer A} {rows : Rows} → Follows answer rows → (isRefused answer ≡ false) ↔ NoneOf rows
@@ -61,9 +59,9 @@ given-follows {A} {a} {rows} value f = record { exactly = (λ e. there (then-cas
     there (inr (t, e)) = absurd (true≢false (sym (ap isRefused e)))
 
 -- A search for the first refusal follows the rows of each index.
-pub each-follows : {f : ℕ → Answer (Unit {0})} {rows : ℕ → Rows} (count : ℕ) → ((index : ℕ) → index < count → Follows (f index) (rows index))
+pub each-follows : {f : ℕ → Answer (Unit {0})} {rows : ℕ → Rows} {count : ℕ} → ((index : ℕ) → index < count → Follows (f index) (rows index))
     → Follows (firstFrom isRefused f taken 0 count) (EachOf count rows)
-each-follows {f} {rows} count each = record { exactly = (λ e. there e (first-cases isRefused f taken 0 count), λ r. back r) }
+each-follows {f} {rows} {count} each = record { exactly = (λ e. there e (first-cases isRefused f taken 0 count), λ r. back r) }
   where
     answer : Answer (Unit {0})
     answer = firstFrom isRefused f taken 0 count

@@ -1,9 +1,8 @@
 -- The judge of lines follows the rows of a line list.
 -- Assumes nothing.
-use Prim.Native.Nat.{ℕ, _/_}
+use Prim.Native.Nat.{ℕ}
 use mathlib.Core.Bool.{_||_}
 use mathlib.Core.List.{List}
-use lib.ListN.{length}
 use lib.Dec.{leb, eqb}
 use Rattle.laws.proofs.Truth.{or-either, leb-exactly, eqb-exactly}
 use Rattle.kinds.specs.Answers.{refuseIf}
@@ -29,7 +28,7 @@ module _ (list n : ℕ) (lines : List ℕ) where
   -- Each line in list order.
   pub lines-follows : Follows (linesJudged list n lines) (linesRows list n lines)
   unfolding linesJudged
-  lines-follows = each-follows (length lines / 2) (λ p h. line-follows p)
+  lines-follows = each-follows (λ p h. line-follows p)
 
   -- THEOREM. The judge follows its rows: 1, 2, then the lines.
   pub list-follows : Follows (listJudged list n lines) (listRows list n lines)

@@ -22,7 +22,7 @@ module _ (n k : ℕ) (lines starts : List ℕ) where
 
   starts-follows : Follows (startsJudged n starts) (startsRows n starts)
   unfolding startsJudged startJudged
-  starts-follows = each-follows (length starts) (λ index h. row-follows (leb-exactly n (getD starts index 0)))
+  starts-follows = each-follows (λ index h. row-follows (leb-exactly n (getD starts index 0)))
 
   -- The sizes: 1, 2, 3, 4, 5, where a test tells exactly that a lent buffer is shorter than needed.
   sizes-follows : {short : Bool} {Short : Type 0} → (short ≡ true) ↔ Short → Follows (sizesJudged n k lines starts short) (sizesRows n k lines starts Short)

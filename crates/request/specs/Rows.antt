@@ -1,7 +1,6 @@
 -- The rows of a request: 1, 2, 3, 4, 5; then each line in list order for 6, 7, 8; then 9.
 -- Assumes nothing.
 use Prim.Native.Nat.{ℕ, _+_, _*_, _/_, _<_, _≤_}
-use mathlib.Core.Path.{_≡_}
 use mathlib.Core.Logic.{_≢_, _⊎_}
 use mathlib.Core.List.{List}
 use lib.ListN.{length, getD}
