@@ -4,3 +4,4 @@ pub mod Files
 pub mod Contents
 pub mod Into
 pub mod Determined
+pub mod Rows

@@ -3,3 +3,4 @@ pub mod Parts
 pub mod Reading
 pub mod Answers
 pub mod Files
+pub mod Rows
