@@ -1,3 +1,4 @@
 pub mod After
 pub mod Copying
 pub mod Determined
+pub mod Rows
