@@ -3,3 +3,4 @@ pub mod Plans
 pub mod Answers
 pub mod RoundsFirst
 pub mod Determined
+pub mod Rows

@@ -1,3 +1,4 @@
 pub mod Pruning
 pub mod Answers
 pub mod Sizes
+pub mod Rows

@@ -1,0 +1,15 @@
+-- THEOREM. What pruning answers follows its rows.
+-- Assumes nothing.
+use Prim.Native.Nat.{ℕ}
+use mathlib.Core.List.{List}
+use Rattle.kinds.specs.Rows.{Follows}
+use Rattle.kinds.proofs.Rows.{given-follows}
+use Rattle.kept.specs.Kept.{keptCount}
+use Rattle.request.proofs.Rows.{request-follows, plan-short-exactly}
+use Rattle.prune.specs.Pruning.{pruned, pruneAnswer}
+use Rattle.prune.specs.Rows.{pruneRows}
+
+pub prune-follows : (n k : ℕ) (lines starts : List ℕ) (ranks orders : ℕ) → Follows (pruneAnswer n k lines starts ranks orders) (pruneRows n k lines starts ranks orders)
+unfolding pruneAnswer
+prune-follows n k lines starts ranks orders =
+    given-follows (keptCount (pruned n k lines starts .ranks)) (request-follows n k lines starts (plan-short-exactly n k lines ranks orders))
