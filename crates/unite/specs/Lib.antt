@@ -2,3 +2,4 @@ pub mod Union
 pub mod Unites
 pub mod Answers
 pub mod Adding
+pub mod Rows
