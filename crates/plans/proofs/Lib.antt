@@ -9,3 +9,4 @@ pub mod Answers
 pub mod Front
 pub mod Verdicts
 pub mod Judging
+pub mod Rows

@@ -5,3 +5,4 @@ pub mod Published
 pub mod Plans
 pub mod Checkable
 pub mod Faults
+pub mod Rows
