@@ -4,3 +4,4 @@ pub mod WrittenRead
 pub mod ReadWritten
 pub mod Calls
 pub mod Determined
+pub mod Rows
