@@ -1,10 +1,9 @@
--- What refusals 10 and 11 mean: the taken-away list is taken just when it rises strictly below n, and is refused at the first index
--- that does not; a station may be asked about just when it remains. Assumes nothing.
+-- What is known where 10 and 11 are not given: the taken-away list is taken just when it rises strictly below n; a station may be asked about
+-- just when it remains. Assumes nothing.
 use Prim.Native.Nat.{ℕ, zero, suc, _+_, _-_, _<_, _≤_}
-use mathlib.Core.Path.{_≡_, refl, sym, ap, _∙_}
-use mathlib.Core.Bool.{Bool, true, false, _&&_, _||_, true≢false, or-false, or-true}
+use mathlib.Core.Path.{_≡_, sym, ap, _∙_}
+use mathlib.Core.Bool.{Bool, true, false, _&&_, _||_, or-false, or-true}
 use mathlib.Core.List.{List}
-use mathlib.Core.Logic.{_⊎_, _⊎_.inl, _⊎_.inr}
 use native.Mathlib.Decide.{ℕ-discrete, decLt, decLe}
 use native.Mathlib.Omega.{arith}
 use borrow.Author.Tests.{leb-false, lt-ltb, le-ltb, le-leb, lt-leb, eq-eqb, ne-eqb}
@@ -12,15 +11,15 @@ use lib.Dec.{ltb, leb, eqb}
 use lib.ListN.{length, getD, set}
 use lib.Seq.{getD-set-same, getD-set-other}
 use Rattle.laws.specs.Fold.{anyFrom}
-use Rattle.laws.proofs.Fold.{FoundAt, FoundNone, first-cases, first-all, first-last, first-at, any-more}
-use Rattle.kinds.specs.Answers.{Answer, Answer.refused, taken, refuseIf, _andThen_, isRefused}
+use Rattle.laws.proofs.Fold.{first-all, first-last, any-more}
+use Rattle.kinds.specs.Answers.{taken, refuseIf, _andThen_, isRefused}
 use Rattle.kinds.proofs.Answers.{then-both, taken-is, passed}
 use Rattle.network.specs.Judging.{listJudged}
 use Rattle.network.specs.Faults.{Sound}
 use Rattle.network.proofs.Sound.{taken-sound}
 use Rattle.pieces.specs.Away.{isAway, isGone, Gone, Rising}
 use Rattle.pieces.specs.Joined.{Remains}
-use Rattle.joined.specs.Rising.{RisesAt, FirstUnrisen}
+use Rattle.joined.specs.Rising.{RisesAt}
 use Rattle.joined.specs.Asking.{awayJudged, allAwayJudged, askedJudged}
 use Rattle.laws.proofs.Truth.{neither}
 
@@ -42,18 +41,6 @@ module _ (n : ℕ) (away : List ℕ) where
         go : Dec (0 < j) → refuseIf (ltb 0 j && leb (getD away j 0) (getD away (j - 1) 0)) 10 j 0 ≡ taken
         go (yes h) = rw (lt-ltb 0 j h, lt-leb (getD away j 0) (getD away (j - 1) 0) (r .above h))
         go (no m) = rw (le-ltb 0 j (omega arith))
-
-    -- an index at which the list does not rise
-    not-risen : isRefused (awayJudged n away j) ≡ true → ¬ RisesAt n away j
-    not-risen e r = true≢false (sym e ∙ ap isRefused (at-rises r))
-
-    unrisen : ¬ RisesAt n away j → awayJudged n away j ≡ refused 10 j 0
-    unfolding awayJudged
-    unrisen m = go (leb n (getD away j 0) || (ltb 0 j && leb (getD away j 0) (getD away (j - 1) 0))) refl
-      where
-        go : (b : Bool) → (leb n (getD away j 0) || (ltb 0 j && leb (getD away j 0) (getD away (j - 1) 0))) ≡ b → refuseIf b 10 j 0 ≡ refused 10 j 0
-        go true e = refl
-        go false e = absurd (m (rises-at (rw e)))
 
   -- a list that rises below n has few numbers
   high : (j : ℕ) → ((i : ℕ) → i < suc j → RisesAt n away i) → j ≤ getD away j 0
@@ -85,29 +72,6 @@ module _ (n : ℕ) (away : List ℕ) where
   pub rising-taken : Rising n away → allAwayJudged n away ≡ taken
   unfolding allAwayJudged
   rising-taken r = first-last isRefused (awayJudged n away) taken (length away) (λ j l. ap isRefused (at-rises j (rising-at r j l)))
-
-  -- THEOREM. It is refused, by 10, just at the first index where it does not.
-  pub unrisen-refused : (j : ℕ) → FirstUnrisen n away j → allAwayJudged n away ≡ refused 10 j 0
-  unfolding allAwayJudged
-  unrisen-refused j f =
-      first-at isRefused (awayJudged n away) taken (length away) j (f .index) (ap isRefused (unrisen j (f .fault))) (λ i l. ap isRefused (at-rises i (f .earlier i l)))
-      ∙ unrisen j (f .fault)
-
-  pub refused-unrisen : {number place list : ℕ} → allAwayJudged n away ≡ refused number place list → (number ≡ 10) × (list ≡ 0) × FirstUnrisen n away place
-  unfolding allAwayJudged
-  refused-unrisen {number} {place} {list} e = go (first-cases isRefused (awayJudged n away) taken 0 (length away))
-    where
-      go : FoundAt isRefused (awayJudged n away) 0 (length away) (allAwayJudged n away)
-          ⊎ FoundNone isRefused (awayJudged n away) taken 0 (length away) (allAwayJudged n away)
-          → (number ≡ 10) × (list ≡ 0) × FirstUnrisen n away place
-      go (inr r) = absurd (true≢false (ap isRefused (sym e ∙ r .is)))
-      go (inl r) =
-          let fault = not-risen (r .place) (r .passes) in
-          let same : _≡_ {A = Answer (Unit {0})} (refused 10 (r .place) 0) (refused number place list) = sym (unrisen (r .place) fault) ∙ (sym (r .is) ∙ e) in
-          let at : r .place ≡ place = cc in
-          let first : FirstUnrisen n away (r .place) =
-          record { index = omega (arith, r .below); fault = fault; earlier = λ i l. rises-at i (r .earlier i (omega arith) l) } in
-          (cc, cc, rw at at first)
 
 -- ── which stations are taken away, and 11 ──
 

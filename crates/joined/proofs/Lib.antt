@@ -1,3 +1,4 @@
 pub mod Asking
 pub mod Right
 pub mod Determined
+pub mod Rows

@@ -1,8 +1,8 @@
--- What refusals 10 and 11 are about: where the list of stations taken away does not rise, and the stations that may be asked about.
+-- What refusals 10 and 11 are about: that the list of stations taken away rises, and the stations that may be asked about.
 -- Assumes nothing.
 use Prim.Native.Nat.{ℕ, _-_, _<_}
 use mathlib.Core.List.{List}
-use lib.ListN.{length, getD}
+use lib.ListN.{getD}
 use Rattle.network.specs.Faults.{Sound}
 use Rattle.pieces.specs.Away.{isAway, Rising}
 use Rattle.pieces.specs.Joined.{Remains}
@@ -11,12 +11,6 @@ use Rattle.pieces.specs.Joined.{Remains}
 pub record RisesAt (n : ℕ) (away : List ℕ) (j : ℕ) : Type 0 where
   pub below : getD away j 0 < n
   pub above : 0 < j → getD away (j - 1) 0 < getD away j 0
-
--- The first index at which the list does not rise below n.
-pub record FirstUnrisen (n : ℕ) (away : List ℕ) (j : ℕ) : Type 0 where
-  pub index : j < length away
-  pub fault : ¬ RisesAt n away j
-  pub earlier : (i : ℕ) → i < j → RisesAt n away i
 
 -- What may be asked: a sound network, a rising list, and two stations that remain.
 pub record Question (n : ℕ) (lines away : List ℕ) (a b : ℕ) : Type 0 where
