@@ -8,3 +8,4 @@ pub mod Whole
 pub mod Answers
 pub mod Determined
 pub mod Cutting
+pub mod Rows

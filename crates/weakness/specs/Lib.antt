@@ -1,4 +1,5 @@
 pub mod Search
+pub mod Rows
 pub mod Spots
 pub mod Answers
 pub mod Cutting
