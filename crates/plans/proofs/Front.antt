@@ -51,7 +51,7 @@ module _ (n k : ℕ) (lines ranks orders more rest : List ℕ) (ranked : length 
   same-rank : (p : ℕ) → p < length lines / 2 → getD (ranks ++ more) p 0 ≡ getD ranks p 0
   same-rank p l = List·getD-append ranks more 0 p (omega arith)
 
-  same-order : (i : ℕ) → i < k → orderOf n (orders ++ rest) i ≡ orderOf n orders i
+  pub same-order : (i : ℕ) → i < k → orderOf n (orders ++ rest) i ≡ orderOf n orders i
   unfolding orderOf
   same-order i h =
       let fits = part-fits i k n h in
