@@ -1,0 +1,4 @@
+pub mod Calls
+pub mod Pins
+pub mod Codes
+pub mod Promises

@@ -1,0 +1,1 @@
+// What Tapuhzel promises, and that it holds: definitions and theorems alone.
