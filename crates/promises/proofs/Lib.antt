@@ -1,4 +1,5 @@
 pub mod Calls
 pub mod Pins
+pub mod CFace
 pub mod Codes
 pub mod Promises

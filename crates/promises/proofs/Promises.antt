@@ -33,6 +33,7 @@ use Rattle.starred.proofs.Examples.{starred-right}
 use Rattle.promises.specs.Promises.{Demand1, Demand2, Demand3, Rules, Once, Pins, Promises}
 use Rattle.promises.proofs.Calls.{judged-sound, pruned-by-the-rule, checked-yes, checked-fault, pruned-then-checked, said-joined, said-apart, said-stands, said-weak, text-refused}
 use Rattle.promises.proofs.Pins.{lowest-once, triangle-joined}
+use Rattle.promises.proofs.CFace.{c-face}
 use Rattle.promises.proofs.Codes.{codes}
 
 demand-1 : Demand1
@@ -111,4 +112,4 @@ pins =
     }
 
 pub promises : Promises
-promises = record { demand-1 = demand-1; demand-2 = demand-2; demand-3 = demand-3; rules = rules; once = once; pins = pins; codes = codes; examples = starred-right }
+promises = record { demand-1 = demand-1; demand-2 = demand-2; demand-3 = demand-3; rules = rules; once = once; pins = pins; c-face = c-face; codes = codes; examples = starred-right }

@@ -1,11 +1,12 @@
 -- The contracts of one equation, as the routines have them, each as a record of what a call may answer; the others are records already, cited by the
--- routines themselves. And what a call of pruning that is not refused leaves behind.
+-- routines themselves. What a call of pruning that is not refused leaves behind; and how a call from C tells a refusal.
 -- Assumes nothing.
 use Prim.Native.Nat.{ℕ, _+_, _*_, _/_, _<_, _≤_}
 use mathlib.Core.Path.{_≡_}
 use mathlib.Core.List.{List}
 use lib.ListN.{length, getD, take, drop, replicate}
 use Rattle.kinds.specs.Answers.{judgedAnswer}
+use Rattle.kinds.specs.Rows.{Rows, NoneOf}
 use Rattle.kinds.specs.declared.Judged.{Judged}
 use Rattle.network.specs.Judging.{listJudged}
 use Rattle.network.specs.Orders.{EachOnce}
@@ -49,3 +50,9 @@ pub record ByTheRule (n k : ℕ) (lines starts ranks orders : List ℕ) (count :
   pub counted : count ≡ keptCount (pruned n k lines starts .ranks)
   pub later-ranks : drop (length lines / 2) ranks′ ≡ drop (length lines / 2) ranks
   pub later-orders : drop (k * n) orders′ ≡ drop (k * n) orders
+
+-- A call's number, place and list tell its rows: three zeros where none holds, else the first that does, whose number is not 0.
+pub record Tells (said : ℕ × ℕ × ℕ) (rows : Rows) : Type 0 where
+  pub zero : NoneOf rows → said ≡ (0, 0, 0)
+  pub row : {number place list : ℕ} → rows number place list → (said ≡ (number, place, list)) × (1 ≤ number)
+  pub only : 1 ≤ said .0 → rows (said .0) (said .1) (said .2)

@@ -74,8 +74,8 @@ use Rattle.certificate.specs.Starts.{StartsIn}
 use Rattle.certificate.specs.Calls.{firstLines, PruneAndCopy, UnionCalls}
 use Rattle.certificate.specs.Seven.{seven, sevenRanks}
 use Rattle.starred.specs.Examples.{Right, starred}
-use Rattle.tapuhzel.specs.Calls.{judgeCall, pruneCall, uniteCall, joinedCall, checkCall, weakCall}
-use Rattle.promises.specs.Contracts.{JudgeAllows, CheckAllows, JoinedAllows, SearchAllows, ByTheRule}
+use Rattle.tapuhzel.specs.Calls.{judgeCall, pruneCall, copyCall, uniteCall, joinedCall, checkCall, weakCall, readCall, writeCall, textCall}
+use Rattle.promises.specs.Contracts.{JudgeAllows, CheckAllows, JoinedAllows, SearchAllows, ByTheRule, Tells}
 
 -- "1. Every input is taken or refused by a numbered reason and a place. No entry point trusts its caller, no input stops it, and a refusal changes no
 -- byte of the caller's buffers." That no routine has a `requires`, and that each comes to an end, is what the checker asks of the code.
@@ -195,6 +195,24 @@ pub record Pins : Type 0 where
   pub seven-not-alike : ¬ Alike 7 2 seven (keptLines seven sevenRanks)
   pub seven-no-plan : (orders : List ℕ) → ¬ PlanMeets 7 2 seven sevenRanks orders
 
+-- The C face, whose contracts say that all a call leaves is one value of `crates/tapuhzel/specs/Calls.antt`: how it tells a refusal, and demand 2 of it.
+pub record CFace : Type 0 where
+  pub judge : (n : ℕ) (lines : List ℕ) → Tells (judgeCall n lines) (listRows 0 n lines)
+  pub prune : (n k : ℕ) (lines starts ranks orders : List ℕ) → Tells (pruneCall n k lines starts ranks orders .0) (pruneRows n k lines starts (length ranks) (length orders))
+  pub check : (n k : ℕ) (lines ranks orders : List ℕ) → Tells (checkCall n k lines ranks orders .0) (checkRows n k lines ranks orders)
+  pub copy : (lines ranks room : List ℕ) → Tells (copyCall lines ranks room .0) (copyRows lines ranks (length room))
+  pub unite : (n : ℕ) (first second room : List ℕ) → Tells (uniteCall n first second room .0) (unionRows n first second (length room))
+  pub ask : (n : ℕ) (lines away : List ℕ) (a b : ℕ) → Tells (joinedCall n lines away a b .0) (joinedRows n lines away a b)
+  pub search-for-weak-spot : (n k : ℕ) (lines : List ℕ) → Tells (weakCall n k lines .0) (weakRows n k lines)
+  pub read : (bytes lines starts : List ℕ) → Tells (readCall bytes lines starts .0) (readRows bytes lines starts)
+  pub write : (n k : ℕ) (lines starts bytes : List ℕ) → Tells (writeCall n k lines starts bytes .0) (writeRows n k lines starts bytes)
+  -- A text is refused, by 5, exactly where its buffer is shorter than the routine asks for.
+  pub write-text : (room : ℕ) (output text : List ℕ) → (textCall room output text .0 ≡ 5) ↔ (length text < room)
+  pub yes-exactly : (n k : ℕ) (lines ranks orders : List ℕ)
+      → (checkCall n k lines ranks orders ≡ ((0, 0, 0), 0, 0, 0)) ↔ (Checkable n k lines ranks orders × PlanMeets n k lines ranks orders)
+  pub ours-among-them : (n k : ℕ) (lines starts ranks orders : List ℕ) {place list kept : ℕ} {ranks′ orders′ : List ℕ}
+      → pruneCall n k lines starts ranks orders ≡ ((0, place, list), kept, ranks′, orders′) → checkCall n k lines ranks′ orders′ ≡ ((0, 0, 0), 0, 0, 0)
+
 -- The codes of the C face, in the words of its header.
 pub record Codes : Type 0 where
   -- The header's words: "*kind is 0 (accepted), or the first fault's kind, 1 for A to 5 for E, with its round in *round and its own place in *at".
@@ -222,5 +240,6 @@ pub record Promises : Type 0 where
   pub rules : Rules
   pub once : Once
   pub pins : Pins
+  pub c-face : CFace
   pub codes : Codes
   pub examples : Right starred
