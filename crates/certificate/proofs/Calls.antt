@@ -8,9 +8,9 @@ use lib.ListN.{length, drop, length-append}
 use Rattle.kinds.specs.Answers.{Answer.given}
 use Rattle.network.specs.Lines.{Within}
 use Rattle.network.specs.Faults.{Sound}
-use Rattle.request.specs.Judging.{planShort}
+use Rattle.limits.specs.Limits.{planShort}
 use Rattle.request.specs.Requests.{Request}
-use Rattle.request.proofs.Room.{enough-room}
+use Rattle.limits.proofs.Room.{enough-room}
 use Rattle.plans.specs.Verdicts.{Verdict.accepted}
 use Rattle.plans.specs.Checking.{checkAnswer}
 use Rattle.plans.proofs.Answers.{check-accepts}

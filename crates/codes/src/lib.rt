@@ -1,4 +1,7 @@
 // How an answer crosses to C: a refusal, a verdict, a weak spot or a text as numbers, written where the caller says.
+use entries::Fault;
+use entries::FaultKind;
+use entries::Verdict;
 use kinds::Refusal;
 use kinds::Station;
 use kinds::list_of;
@@ -7,14 +10,11 @@ use kinds::place_of;
 use parting::Found;
 use parting::Spot;
 use report::Written;
-use rounds::Fault;
-use rounds::FaultKind;
-use rounds::Verdict;
 ghost use mathlib.Core.Path.{_≡_};
 ghost use lib.ListN.{length, getD};
 ghost use Rattle.kinds.specs.Answers.{Answer.given};
 ghost use Rattle.kinds.specs.Refusals.{numberOf, placeOf, listOf};
-ghost use Rattle.rounds.specs.Answers.{kindOf, faultPlace, verdictSaid};
+ghost use Rattle.entries.specs.Answers.{kindOf, faultPlace, verdictSaid};
 ghost use Rattle.parting.specs.Answers.{spotStations, foundStanding};
 ghost use Rattle.codes.specs.Codes.{letterNumber, kindSaid, roundSaid, faultPlaceSaid, weakSaid, spotSaid, oneSaid, twoSaid, writtenNumber, writtenCount};
 

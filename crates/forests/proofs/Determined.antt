@@ -4,7 +4,7 @@ use Prim.Native.Nat.{ℕ}
 use mathlib.Core.Path.{_≡_, sym, ap, _∙_}
 use mathlib.Core.List.{List}
 use Rattle.kinds.proofs.Determined.{refusal-determined}
-use Rattle.rounds.proofs.Determined.{verdict-determined}
+use Rattle.entries.proofs.Determined.{verdict-determined}
 use Rattle.plans.specs.Checking.{checkAnswer}
 use Rattle.forests.specs.Answers.{checkedAnswer}
 use Rattle.forests.specs.declared.Checked.{Checked}

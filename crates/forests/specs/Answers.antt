@@ -2,7 +2,7 @@
 -- Assumes nothing.
 use Rattle.kinds.specs.Answers.{Answer, Answer.given, refusalAnswer}
 use Rattle.plans.specs.Verdicts.{Verdict}
-use Rattle.rounds.specs.Answers.{verdictSaid}
+use Rattle.entries.specs.Answers.{verdictSaid}
 use Rattle.forests.specs.declared.Checked.{Checked}
 use Rattle.forests.specs.declared.Checked.the-variants.{Found, Refused}
 

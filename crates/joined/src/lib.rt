@@ -1,4 +1,5 @@
 // Whether two stations are joined when others are taken away.
+use judging::judge;
 use kinds::Asked;
 use kinds::Judged;
 use kinds::Position;
@@ -6,7 +7,6 @@ use kinds::Refusal;
 use kinds::Station;
 use kinds::first_refusal;
 use kinds::is_refused;
-use network::judge;
 use pieces::find_pieces;
 ghost use mathlib.Core.Path.{_≡_};
 ghost use mathlib.Core.Bool.{_||_};

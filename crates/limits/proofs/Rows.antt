@@ -1,6 +1,6 @@
 -- The judges of sizes follow their rows of the table.
 -- Assumes nothing.
-use Prim.Native.Nat.{ℕ, _%_}
+use Prim.Native.Nat.{ℕ, _*_, _/_, _%_}
 use mathlib.Core.Path.{_≡_}
 use mathlib.Core.Bool.{Bool, true}
 use mathlib.Core.Logic.{_↔_}
@@ -9,8 +9,8 @@ use lib.ListN.{length}
 use Rattle.laws.proofs.Truth.{or-either, ltb-exactly, eqb-exactly}
 use Rattle.kinds.specs.Rows.{Follows}
 use Rattle.kinds.proofs.Rows.{row-follows}
-use Rattle.limits.specs.Limits.{stationsJudged, lengthJudged, levelJudged, roomJudged, weakLevelJudged}
-use Rattle.limits.specs.Rows.{stationsRow, lengthRow, levelRow, roomRow, weakLevelRow}
+use Rattle.limits.specs.Limits.{stationsJudged, lengthJudged, levelJudged, roomJudged, planShort, weakLevelJudged}
+use Rattle.limits.specs.Rows.{stationsRow, lengthRow, levelRow, roomRow, PlanShort, weakLevelRow}
 
 -- 1, 2, 3, 5 and 12 are each given exactly where their row holds.
 pub stations-follows : (n : ℕ) → Follows (stationsJudged n) (stationsRow n)
@@ -32,3 +32,8 @@ room-follows tells = row-follows tells
 pub weak-level-follows : (k : ℕ) → Follows (weakLevelJudged k) (weakLevelRow k)
 unfolding weakLevelJudged
 weak-level-follows k = row-follows (or-either (ltb-exactly k 1) (ltb-exactly 3 k))
+
+-- The test of the room for a plan tells exactly that it is short.
+pub plan-short-exactly : (n k : ℕ) (lines : List ℕ) (ranks orders : ℕ) → (planShort n k lines ranks orders ≡ true) ↔ PlanShort n k lines ranks orders
+unfolding planShort
+plan-short-exactly n k lines ranks orders = or-either (ltb-exactly ranks (length lines / 2)) (ltb-exactly orders (k * n))

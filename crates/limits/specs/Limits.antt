@@ -1,6 +1,6 @@
 -- The refusals that look at sizes alone, by their rows of the table: 1, 2, 3, 5 and 12.
 -- Assumes nothing.
-use Prim.Native.Nat.{ℕ, _%_}
+use Prim.Native.Nat.{ℕ, _*_, _/_, _%_}
 use mathlib.Core.Bool.{Bool, _||_}
 use mathlib.Core.List.{List}
 use lib.ListN.{length}
@@ -22,6 +22,10 @@ levelJudged k = refuseIf (ltb k 1 || ltb 16 k) 3 0 0
 -- 5: a lent buffer is shorter than needed.
 unfoldable pub roomJudged : Bool → Answer (Unit {0})
 roomJudged short = refuseIf short 5 0 0
+
+-- Whether the room for a plan is too short: m bytes for the ranks, k times n numbers for the orders.
+unfoldable pub planShort : ℕ → ℕ → List ℕ → (ranks orders : ℕ) → Bool
+planShort n k lines ranks orders = ltb ranks (length lines / 2) || ltb orders (k * n)
 
 -- 12: the weak-spot level is not 1 to 3.
 unfoldable pub weakLevelJudged : ℕ → Answer (Unit {0})

@@ -1,6 +1,6 @@
 -- The rows that look at sizes alone: 1, 2, 3, 5 and 12.
 -- Assumes nothing.
-use Prim.Native.Nat.{ℕ, _%_, _<_}
+use Prim.Native.Nat.{ℕ, _*_, _/_, _%_, _<_}
 use mathlib.Core.Path.{_≡_}
 use mathlib.Core.Logic.{_⊎_}
 use mathlib.Core.List.{List}
@@ -22,6 +22,10 @@ levelRow k = Row ((k < 1) ⊎ (16 < k)) 3 0 0
 -- 5: a lent buffer is shorter than needed.
 abbrev pub roomRow : Type 0 → Rows
 roomRow short = Row short 5 0 0
+
+-- Room for a plan is short: fewer than m bytes for the ranks, or fewer than k times n numbers for the orders.
+abbrev pub PlanShort : ℕ → ℕ → List ℕ → (ranks orders : ℕ) → Type 0
+PlanShort n k lines ranks orders = (ranks < length lines / 2) ⊎ (orders < k * n)
 
 -- 12: the weak-spot level is not 1 to 3.
 abbrev pub weakLevelRow : ℕ → Rows

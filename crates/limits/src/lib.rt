@@ -8,7 +8,7 @@ ghost use mathlib.Core.Bool.{_||_};
 ghost use lib.Dec.{ltb};
 ghost use Rattle.kinds.specs.Answers.{judgedAnswer, refuseIf};
 ghost use Rattle.kinds.specs.Refusals.{listNumber, numberOf, placeOf, listOf};
-ghost use Rattle.limits.specs.Limits.{stationsJudged, lengthJudged, levelJudged, roomJudged, weakLevelJudged};
+ghost use Rattle.limits.specs.Limits.{stationsJudged, lengthJudged, levelJudged, roomJudged, planShort, weakLevelJudged};
 
 // A number is taken from `low` to `high`, and else refused.
 fn judge_between(low: usize, high: usize, number: usize, refusal: Refusal) -> Judged
@@ -65,4 +65,17 @@ pub fn judge_weak_level(level: Level) -> Judged
     ensures answer { λ r. ⌜ judgedAnswer r ≡ weakLevelJudged (level .0) ⌝ }
 {
     judge_between(1, 3, level.0, Refusal::WeakLevel)
+}
+
+// Whether the room for a plan, ranks and orders, is too short. Dividing instead of multiplying keeps any level and n from wrapping.
+pub fn is_plan_short(n: usize, level: Level, lines: &[u16], ranks: usize, orders: usize) -> bool
+    ensures short { λ r. ⌜ r ≡ planShort n (level .0) (now (lines .entry)) ranks orders ⌝ }
+{
+    if ranks < lines.len() / 2 {
+        return true;
+    }
+    if n == 0 {
+        return false;
+    }
+    orders / n < level.0
 }

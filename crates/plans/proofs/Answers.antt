@@ -7,7 +7,7 @@ use mathlib.Core.Logic.{_↔_}
 use lib.ListN.{length}
 use Rattle.kinds.specs.Answers.{Answer.given, isRefused}
 use Rattle.kinds.proofs.Answers.{then-given}
-use Rattle.request.specs.Judging.{planShort}
+use Rattle.limits.specs.Limits.{planShort}
 use Rattle.plans.specs.Verdicts.{Kind, Verdict, Verdict.accepted, Verdict.faulty}
 use Rattle.plans.specs.Checking.{planVerdict, planJudged, checkAnswer}
 use Rattle.plans.specs.Checkable.{Checkable}

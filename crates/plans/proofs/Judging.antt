@@ -12,8 +12,8 @@ use Rattle.limits.specs.Limits.{stationsJudged, lengthJudged, levelJudged, room
 use Rattle.limits.proofs.Limits.{level-good}
 use Rattle.network.specs.Judging.{linesJudged}
 use Rattle.network.proofs.Sound.{parts-sound, within-taken, lines-only, sound-taken}
-use Rattle.request.specs.Judging.{planShort}
-use Rattle.request.proofs.Room.{room-enough, enough-room}
+use Rattle.limits.specs.Limits.{planShort}
+use Rattle.limits.proofs.Room.{room-enough, enough-room}
 use Rattle.plans.specs.Checking.{planJudged}
 use Rattle.plans.specs.Checkable.{Checkable}
 

@@ -7,7 +7,7 @@ use Rattle.kinds.specs.Rows.{Follows}
 use Rattle.kinds.proofs.Rows.{then-follows, given-follows}
 use Rattle.limits.proofs.Rows.{stations-follows, length-follows, level-follows, room-follows}
 use Rattle.network.proofs.Rows.{lines-follows}
-use Rattle.request.proofs.Rows.{plan-short-exactly}
+use Rattle.limits.proofs.Rows.{plan-short-exactly}
 use Rattle.plans.specs.Checking.{planVerdict, planJudged, checkAnswer}
 use Rattle.plans.specs.Rows.{checkRows}
 

@@ -6,7 +6,7 @@ use lib.ListN.{length}
 use Rattle.kinds.specs.Rows.{Rows, _thenTry_}
 use Rattle.limits.specs.Rows.{stationsRow, lengthRow, levelRow, roomRow}
 use Rattle.network.specs.Rows.{linesRows}
-use Rattle.request.specs.Rows.{PlanShort}
+use Rattle.limits.specs.Rows.{PlanShort}
 
 abbrev pub checkRows : ℕ → ℕ → (lines ranks orders : List ℕ) → Rows
 checkRows n k lines ranks orders =

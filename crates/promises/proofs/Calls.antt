@@ -33,7 +33,7 @@ use Rattle.plans.specs.Faults.{FirstFault}
 use Rattle.plans.specs.Orders.{orderOf}
 use Rattle.plans.proofs.Answers.{check-accepts, check-faults}
 use Rattle.plans.proofs.Front.{same-order}
-use Rattle.rounds.specs.declared.Verdict.the-variants.{Accepted}
+use Rattle.entries.specs.declared.Verdict.the-variants.{Accepted}
 use Rattle.forests.specs.Answers.{checkedAnswer}
 use Rattle.forests.specs.declared.Checked.{Checked}
 use Rattle.forests.specs.declared.Checked.the-variants.{Found as CheckFound}

@@ -39,7 +39,7 @@ use Rattle.plans.specs.Plans.{PlanMeets}
 use Rattle.plans.specs.Checkable.{Checkable}
 use Rattle.plans.specs.Faults.{FirstFault}
 use Rattle.plans.specs.Rows.{checkRows}
-use Rattle.rounds.specs.declared.Verdict.the-variants.{Accepted}
+use Rattle.entries.specs.declared.Verdict.the-variants.{Accepted}
 use Rattle.forests.specs.Answers.{checkedAnswer}
 use Rattle.forests.specs.declared.Checked.{Checked}
 use Rattle.forests.specs.declared.Checked.the-variants.{Found as CheckFound}

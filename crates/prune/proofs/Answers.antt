@@ -5,7 +5,8 @@ use mathlib.Core.Path.{_≡_, ap}
 use mathlib.Core.List.{List}
 use Rattle.kinds.specs.Answers.{Answer.given, isRefused}
 use Rattle.kinds.proofs.Answers.{then-given}
-use Rattle.request.specs.Judging.{planShort, requestJudged}
+use Rattle.limits.specs.Limits.{planShort}
+use Rattle.request.specs.Judging.{requestJudged}
 use Rattle.request.specs.Requests.{Request}
 use Rattle.request.proofs.Judging.{request-good, good-request}
 use Rattle.kept.specs.Kept.{keptCount}

@@ -5,7 +5,8 @@ use mathlib.Core.List.{List}
 use Rattle.kinds.specs.Rows.{Follows}
 use Rattle.kinds.proofs.Rows.{given-follows}
 use Rattle.kept.specs.Kept.{keptCount}
-use Rattle.request.proofs.Rows.{request-follows, plan-short-exactly}
+use Rattle.limits.proofs.Rows.{plan-short-exactly}
+use Rattle.request.proofs.Rows.{request-follows}
 use Rattle.prune.specs.Pruning.{pruned, pruneAnswer}
 use Rattle.prune.specs.Rows.{pruneRows}
 

@@ -6,7 +6,8 @@ use lib.ListN.{length, getD, replicate}
 use Rattle.laws.specs.Fold.{upTo}
 use Rattle.kinds.specs.Answers.{Answer, Answer.given, _andThen_}
 use Rattle.kept.specs.Kept.{keptCount}
-use Rattle.request.specs.Judging.{planShort, requestJudged}
+use Rattle.limits.specs.Limits.{planShort}
+use Rattle.request.specs.Judging.{requestJudged}
 use Rattle.scan.specs.Rule.{oneRound}
 
 -- What the rounds make: the lines' ranks, and the rounds' orders, n places to a round.

@@ -3,7 +3,8 @@
 use Prim.Native.Nat.{ℕ}
 use mathlib.Core.List.{List}
 use Rattle.kinds.specs.Rows.{Rows}
-use Rattle.request.specs.Rows.{PlanShort, requestRows}
+use Rattle.limits.specs.Rows.{PlanShort}
+use Rattle.request.specs.Rows.{requestRows}
 
 -- Given the lengths of the two buffers.
 abbrev pub pruneRows : ℕ → ℕ → (lines starts : List ℕ) → (ranks orders : ℕ) → Rows

@@ -5,7 +5,7 @@ use kinds::Level;
 use kinds::Refusal;
 use kinds::Round;
 use kinds::Station;
-use request::is_plan_short;
+use limits::is_plan_short;
 use request::judge_request;
 use scan::scan_round;
 ghost use mathlib.Core.Path.{_≡_};

@@ -1,18 +1,18 @@
 -- The judge of a request follows its rows.
 -- Assumes nothing.
-use Prim.Native.Nat.{ℕ, _*_, _/_}
+use Prim.Native.Nat.{ℕ}
 use mathlib.Core.Path.{_≡_}
 use mathlib.Core.Bool.{Bool, true}
 use mathlib.Core.Logic.{_↔_}
 use mathlib.Core.List.{List}
 use lib.ListN.{length, getD}
-use Rattle.laws.proofs.Truth.{or-either, not-exactly, ltb-exactly, leb-exactly, eqb-exactly}
+use Rattle.laws.proofs.Truth.{not-exactly, leb-exactly, eqb-exactly}
 use Rattle.kinds.specs.Rows.{Follows}
 use Rattle.kinds.proofs.Rows.{row-follows, then-follows, each-follows}
 use Rattle.limits.proofs.Rows.{stations-follows, length-follows, level-follows, room-follows}
 use Rattle.network.proofs.Rows.{lines-follows}
-use Rattle.request.specs.Judging.{startCountJudged, planShort, startJudged, startsJudged, sizesJudged, requestJudged}
-use Rattle.request.specs.Rows.{startCountRow, startsRows, sizesRows, requestRows, PlanShort}
+use Rattle.request.specs.Judging.{startCountJudged, startJudged, startsJudged, sizesJudged, requestJudged}
+use Rattle.request.specs.Rows.{startCountRow, startsRows, sizesRows, requestRows}
 
 module _ (n k : ℕ) (lines starts : List ℕ) where
   -- 4, and 9 round by round.
@@ -35,8 +35,3 @@ module _ (n k : ℕ) (lines starts : List ℕ) where
   pub request-follows : {short : Bool} {Short : Type 0} → (short ≡ true) ↔ Short → Follows (requestJudged n k lines starts short) (requestRows n k lines starts Short)
   unfolding requestJudged
   request-follows tells = then-follows (sizes-follows tells) (then-follows (lines-follows 0 n lines) starts-follows)
-
--- The test of the room for a plan tells exactly that it is short.
-pub plan-short-exactly : (n k : ℕ) (lines : List ℕ) (ranks orders : ℕ) → (planShort n k lines ranks orders ≡ true) ↔ PlanShort n k lines ranks orders
-unfolding planShort
-plan-short-exactly n k lines ranks orders = or-either (ltb-exactly ranks (length lines / 2)) (ltb-exactly orders (k * n))

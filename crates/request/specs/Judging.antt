@@ -1,10 +1,10 @@
 -- What an owner asks for: a network, a level k and a starting station for each round; and its refusals in order.
 -- Assumes nothing.
-use Prim.Native.Nat.{ℕ, _+_, _*_, _/_}
-use mathlib.Core.Bool.{Bool, not, _||_}
+use Prim.Native.Nat.{ℕ, _+_}
+use mathlib.Core.Bool.{Bool, not}
 use mathlib.Core.List.{List}
 use lib.ListN.{length, getD}
-use lib.Dec.{ltb, leb, eqb}
+use lib.Dec.{leb, eqb}
 use Rattle.laws.specs.Fold.{firstFrom}
 use Rattle.kinds.specs.Answers.{Answer, taken, refuseIf, _andThen_, isRefused}
 use Rattle.limits.specs.Limits.{stationsJudged, lengthJudged, levelJudged, roomJudged}
@@ -13,10 +13,6 @@ use Rattle.network.specs.Judging.{linesJudged}
 -- 4: the number of starting stations is not k.
 unfoldable pub startCountJudged : ℕ → List ℕ → Answer (Unit {0})
 startCountJudged k starts = refuseIf (not (eqb (length starts) k)) 4 0 0
-
--- Whether the room for a plan is too short: m bytes for the ranks, k times n numbers for the orders.
-unfoldable pub planShort : ℕ → ℕ → List ℕ → (ranks orders : ℕ) → Bool
-planShort n k lines ranks orders = ltb ranks (length lines / 2) || ltb orders (k * n)
 
 -- 9: the starting station at an index is n or more; the place is its round, counted from 1.
 unfoldable pub startJudged : ℕ → List ℕ → ℕ → Answer (Unit {0})

@@ -1,7 +1,7 @@
 -- The rows of a request: 1, 2, 3, 4, 5; then each line in list order for 6, 7, 8; then 9.
 -- Assumes nothing.
-use Prim.Native.Nat.{ℕ, _+_, _*_, _/_, _<_, _≤_}
-use mathlib.Core.Logic.{_≢_, _⊎_}
+use Prim.Native.Nat.{ℕ, _+_, _≤_}
+use mathlib.Core.Logic.{_≢_}
 use mathlib.Core.List.{List}
 use lib.ListN.{length, getD}
 use Rattle.kinds.specs.Rows.{Rows, Row, _thenTry_, EachOf}
@@ -22,7 +22,3 @@ sizesRows n k lines starts short = stationsRow n thenTry lengthRow 0 lines thenT
 
 abbrev pub requestRows : ℕ → ℕ → (lines starts : List ℕ) → Type 0 → Rows
 requestRows n k lines starts short = sizesRows n k lines starts short thenTry linesRows 0 n lines thenTry startsRows n starts
-
--- Room for a plan is short: fewer than m bytes for the ranks, or fewer than k times n numbers for the orders.
-abbrev pub PlanShort : ℕ → ℕ → List ℕ → (ranks orders : ℕ) → Type 0
-PlanShort n k lines ranks orders = (ranks < length lines / 2) ⊎ (orders < k * n)

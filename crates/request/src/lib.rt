@@ -1,4 +1,5 @@
 // What an owner asks for: a network, a level and a starting station for each round; and its judge.
+use judging::judge_list;
 use kinds::Judged;
 use kinds::Level;
 use kinds::LineList;
@@ -11,12 +12,11 @@ use limits::judge_length;
 use limits::judge_level;
 use limits::judge_room;
 use limits::judge_stations;
-use network::judge_list;
 ghost use mathlib.Core.Path.{_≡_};
 ghost use Prim.Native.Nat.{_<_, _≤_};
 ghost use lib.ListN.{length};
 ghost use Rattle.kinds.specs.Answers.{judgedAnswer};
-ghost use Rattle.request.specs.Judging.{startCountJudged, planShort, startJudged, startsJudged, sizesJudged, requestJudged};
+ghost use Rattle.request.specs.Judging.{startCountJudged, startJudged, startsJudged, sizesJudged, requestJudged};
 
 // Refusal 4: the number of starting stations is not k.
 fn judge_start_count(level: Level, starts: &[u16]) -> Judged
@@ -26,19 +26,6 @@ fn judge_start_count(level: Level, starts: &[u16]) -> Judged
         return Judged::Taken;
     }
     Judged::Refused(Refusal::StartCount)
-}
-
-// Whether the room for a plan, ranks and orders, is too short. Dividing instead of multiplying keeps any level and n from wrapping.
-pub fn is_plan_short(n: usize, level: Level, lines: &[u16], ranks: usize, orders: usize) -> bool
-    ensures short { λ r. ⌜ r ≡ planShort n (level .0) (now (lines .entry)) ranks orders ⌝ }
-{
-    if ranks < lines.len() / 2 {
-        return true;
-    }
-    if n == 0 {
-        return false;
-    }
-    orders / n < level.0
 }
 
 // Refusal 9: the starting station at a position is n or more. Its round is one more than the position.

@@ -1,4 +1,2 @@
-pub mod Placing
 pub mod Seeing
 pub mod Tables
-pub mod Determined

@@ -21,7 +21,8 @@ use Rattle.network.specs.Faults.{Sound}
 use Rattle.plans.specs.Orders.{positionOf}
 use Rattle.plans.specs.Checking.{inPlay, ofRank, earliest, hasParent, hasOther, parentVerdict, otherVerdict, stationVerdict, stationsVerdict, treesOf, lineVerdict, linesVerdict}
 use Rattle.seen.specs.Tables.{Seen, seeBetween, seeLine, seeLines, Blank, plant, plantAll}
-use Rattle.rounds.specs.Tables.{Placed, seenVerdict, allSeenVerdict, treesVerdict, allTreesVerdict}
+use Rattle.entries.specs.Placed.{Placed}
+use Rattle.rounds.specs.Tables.{seenVerdict, allSeenVerdict, treesVerdict, allTreesVerdict}
 use Rattle.plans.specs.Verdicts.{Verdict.accepted, isFaulty}
 use Rattle.plans.specs.Faults.{Beside, Tied}
 use Rattle.plans.proofs.Hops.{in-play, play-in, of-rank, rank-of, linked-tied, tied-linked, firstBeside, searched, Searched, earliest-one}

@@ -1,21 +1,16 @@
--- What the check remembers of a round: where each station stands in its order; and the round's verdicts, by the tables of what is seen.
+-- The tables of one round's check, and its verdicts by the tables of what is seen.
 -- Assumes nothing.
-use Prim.Native.Nat.{ℕ, _/_, _<_}
+use Prim.Native.Nat.{ℕ, _/_}
 use mathlib.Core.Path.{_≡_}
 use mathlib.Core.Bool.{Bool, false, not, _&&_}
 use mathlib.Core.List.{List}
 use lib.ListN.{length, getD}
 use lib.Dec.{ltb, eqb}
-use Rattle.laws.specs.Fold.{firstFrom, lowest}
+use Rattle.laws.specs.Fold.{firstFrom}
 use Rattle.network.specs.Lines.{endOne, endTwo}
 use Rattle.plans.specs.Verdicts.{Kind.C, Kind.D, Kind.E, Verdict, Verdict.accepted, faultIf, _orElse_, isFaulty}
 use Rattle.plans.specs.Checking.{inPlay}
 use Rattle.seen.specs.Tables.{Seen}
-
--- The stations of the first `count` entries have their positions in the table, and the others n.
-pub record Placed (n : ℕ) (order : List ℕ) (count : ℕ) (positions : List ℕ) : Type 0 where
-  pub size : length positions ≡ n
-  pub at : (v : ℕ) → v < n → getD positions v 0 ≡ lowest (λ j. eqb (getD order j 0) v) count n
 
 -- There is room for each table.
 pub record Room (n : ℕ) (positions earliest : List ℕ) (parents others : List Bool) (trees : List ℕ) : Type 0 where

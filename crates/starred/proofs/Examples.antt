@@ -5,7 +5,8 @@ use native.Mathlib.Omega.{arith}
 use Rattle.laws.specs.Fold.{upTo, firstFrom}
 use Rattle.limits.specs.Limits.{stationsJudged, lengthJudged, levelJudged, roomJudged, weakLevelJudged}
 use Rattle.network.specs.Judging.{sameEnds, endsJudged, lineJudged, linesJudged, listJudged}
-use Rattle.request.specs.Judging.{startCountJudged, startJudged, startsJudged, sizesJudged, requestJudged, planShort}
+use Rattle.limits.specs.Limits.{planShort}
+use Rattle.request.specs.Judging.{startCountJudged, startJudged, startsJudged, sizesJudged, requestJudged}
 use Rattle.scan.specs.Rule.{takeTo, takeLine, scanStation, ready, fresh, nextStation, scanAs, scanNext, allScanned, oneRound}
 use Rattle.kept.specs.Kept.{keptCount, copyLine, keptLines}
 use Rattle.prune.specs.Pruning.{nextRound, allRounds, pruned, pruneAnswer}
@@ -16,7 +17,8 @@ use Rattle.pieces.specs.Pieces.{alone, merge, joinLine, piecesOf, onePiece}
 use Rattle.joined.specs.Asking.{awayJudged, allAwayJudged, askedJudged, joinedAnswer}
 use Rattle.unite.specs.Union.{addLine, united, listsJudged, unionJudged, unionShort, sizeAnswer, unionAnswer}
 use Rattle.parting.specs.Standing.{lowestRemaining, lowestApart, without}
-use Rattle.weakness.specs.Search.{withoutOnes, withoutSeconds, withoutTwos, weakSpot, weakJudged, weakAnswer}
+use Rattle.tries.specs.Tries.{withoutOnes, withoutSeconds, withoutTwos, weakSpot}
+use Rattle.weakness.specs.Search.{weakJudged, weakAnswer}
 use Rattle.certificate.proofs.Seven.{seven-forests}
 use Rattle.starred.specs.Examples.{Right, starred}
 

@@ -20,7 +20,7 @@ ghost use Rattle.tapuhzel.specs.Calls.{judgeCall, pruneCall, copyCall, u
 pub extern "C" fn tapuhzel_judge(n: usize, lines: &[u16], place: &mut usize, list: &mut u8) -> u8
     ensures call { λ r. ⌜ (r, now (place .exit), now (list .exit)) ≡ judgeCall n (now (lines .entry)) ⌝ }
 {
-    let judged = network::judge(n, lines);
+    let judged = judging::judge(n, lines);
     if let Judged::Refused(refusal) = judged {
         return say_refusal(refusal, place, list);
     }

@@ -1,4 +1,5 @@
 // The union of two line lists.
+use judging::judge_list;
 use kinds::Judged;
 use kinds::LineList;
 use kinds::Place;
@@ -6,7 +7,6 @@ use kinds::Refusal;
 use kinds::first_refusal;
 use limits::judge_length;
 use limits::judge_stations;
-use network::judge_list;
 use network::line_at;
 use network::pair_number;
 ghost use mathlib.Core.Path.{_≡_};

@@ -18,7 +18,7 @@ use Rattle.pieces.specs.Pieces.{onePiece}
 use Rattle.pieces.proofs.Chains.{one-piece-joined, joined-one-piece}
 use Rattle.certificate.specs.Alike.{Alike}
 use Rattle.parting.specs.Standing.{Standing, Standing.stands, isWeak, lowestRemaining, lowestApart, without}
-use Rattle.weakness.specs.Search.{withoutOnes, withoutSeconds, withoutTwos, weakSpot}
+use Rattle.tries.specs.Tries.{withoutOnes, withoutSeconds, withoutTwos, weakSpot}
 use Rattle.parting.proofs.Remaining.{lowest-remains, none-few, one-few, two-few}
 use Rattle.laws.proofs.Fold.{first-same, lowest-same}
 

@@ -7,7 +7,8 @@ use mathlib.Core.Logic.{_↔_}
 use Rattle.kinds.specs.Answers.{Answer.given}
 use Rattle.kinds.proofs.Answers.{then-given}
 use Rattle.parting.specs.Standing.{Standing, Standing.stands, Standing.weak}
-use Rattle.weakness.specs.Search.{weakSpot, weakJudged, weakAnswer}
+use Rattle.tries.specs.Tries.{weakSpot}
+use Rattle.weakness.specs.Search.{weakJudged, weakAnswer}
 use Rattle.weakness.specs.Spots.{Searchable, StandsAt, IsWeakSpot}
 use Rattle.weakness.proofs.Judging.{weak-good, good-weak}
 use Rattle.weakness.proofs.Whole.{stands-whole, weak-spot}

@@ -1,4 +1,3 @@
-pub mod Standing
 pub mod Agree
 pub mod Pruned
 pub mod Judging
@@ -7,5 +6,4 @@ pub mod Spots
 pub mod Whole
 pub mod Answers
 pub mod Determined
-pub mod Cutting
 pub mod Rows

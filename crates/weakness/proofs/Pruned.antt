@@ -9,8 +9,8 @@ use native.Mathlib.Omega.{arith}
 use lib.ListN.{length, take}
 use Rattle.kinds.specs.Answers.{Answer.given}
 use Rattle.network.specs.Faults.{Sound}
-use Rattle.request.specs.Judging.{planShort}
-use Rattle.request.proofs.Room.{enough-room}
+use Rattle.limits.specs.Limits.{planShort}
+use Rattle.limits.proofs.Room.{enough-room}
 use Rattle.kept.specs.Kept.{keptCount, keptOf}
 use Rattle.kept.specs.Answers.{CopyAllows}
 use Rattle.kept.specs.declared.Copied.{Copied}
@@ -26,7 +26,7 @@ use Rattle.certificate.proofs.Kept.{kept-sound}
 use Rattle.certificate.proofs.Few.{kept-lines-few}
 use Rattle.certificate.proofs.Pruned.{pruned-meets}
 use Rattle.certificate.proofs.Demand3.{pruned-alike}
-use Rattle.weakness.specs.Search.{weakSpot}
+use Rattle.tries.specs.Tries.{weakSpot}
 use Rattle.weakness.specs.Spots.{Prunable}
 use Rattle.weakness.proofs.Agree.{alike-weak-spot}
 

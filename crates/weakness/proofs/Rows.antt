@@ -6,7 +6,8 @@ use Rattle.kinds.specs.Rows.{Follows}
 use Rattle.kinds.proofs.Rows.{then-follows, given-follows}
 use Rattle.limits.proofs.Rows.{stations-follows, length-follows, weak-level-follows}
 use Rattle.network.proofs.Rows.{lines-follows}
-use Rattle.weakness.specs.Search.{weakSpot, weakJudged, weakAnswer}
+use Rattle.tries.specs.Tries.{weakSpot}
+use Rattle.weakness.specs.Search.{weakJudged, weakAnswer}
 use Rattle.weakness.specs.Rows.{weakRows}
 
 pub weak-follows : (n k : ℕ) (lines : List ℕ) → Follows (weakAnswer n k lines) (weakRows n k lines)

@@ -15,9 +15,9 @@ use lib.ListN.{length, getD}
 use Rattle.laws.proofs.Fold.{FoundAt, FoundNone, first-cases}
 use Rattle.pieces.specs.Away.{Rising}
 use Rattle.parting.specs.Standing.{Standing.stands, isWeak, without}
-use Rattle.weakness.specs.Search.{withoutOnes, withoutSeconds, withoutTwos, weakSpot}
+use Rattle.tries.specs.Tries.{withoutOnes, withoutSeconds, withoutTwos, weakSpot}
 use Rattle.weakness.specs.Spots.{Tried, Earlier, Earlier.fewer, Earlier.first, Earlier.second}
-use Rattle.weakness.proofs.Standing.{else-weak, else-next}
+use Rattle.tries.proofs.Standing.{else-weak, else-next}
 
 pub none-rising : (n : ℕ) → Rising n []
 none-rising n = record { below = λ j l. absurd (omega arith); above = λ j l. absurd (omega arith) }

@@ -17,7 +17,7 @@ use Rattle.pieces.specs.Joined.{Whole}
 use Rattle.pieces.specs.Away.{isAway, Rising}
 use Rattle.pieces.proofs.Away.{away-stands}
 use Rattle.parting.specs.Standing.{Standing, Standing.stands, Standing.weak, isWeak, without}
-use Rattle.weakness.specs.Search.{weakSpot}
+use Rattle.tries.specs.Tries.{weakSpot}
 use Rattle.parting.specs.Parts.{Parts}
 use Rattle.weakness.specs.Spots.{StandsAt, IsWeakSpot}
 use Rattle.parting.proofs.Whole.{without-cases, sturdy-whole, whole-same}

@@ -2,4 +2,3 @@ pub mod Search
 pub mod Rows
 pub mod Spots
 pub mod Answers
-pub mod Cutting

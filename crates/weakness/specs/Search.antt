@@ -1,38 +1,12 @@
--- Whether a network stands at a level, and its weak spot otherwise, over the whole list.
+-- Whether a network stands at a level, and its weak spot otherwise, over the whole list; and the refusals.
 -- Assumes nothing.
-use Prim.Native.Nat.{ℕ, _+_, _-_}
-use mathlib.Core.List.{List, [], _∷_}
-use lib.Dec.{leb}
-use Rattle.laws.specs.Fold.{pick, firstFrom}
+use Prim.Native.Nat.{ℕ}
+use mathlib.Core.List.{List}
 use Rattle.kinds.specs.Answers.{Answer, Answer.given, _andThen_}
 use Rattle.limits.specs.Limits.{stationsJudged, lengthJudged, weakLevelJudged}
 use Rattle.network.specs.Judging.{linesJudged}
-use Rattle.parting.specs.Standing.{Standing, Standing.stands, Standing.weak, isWeak, without}
-
-infixr 30 _orElse_
--- The first try's weak spot, or what the tries after it say.
-abbrev pub _orElse_ : Standing → Standing → Standing
-_orElse_ stands next = next
-_orElse_ (weak spot a b) next = weak spot a b
-
--- One station is taken away, the smallest number first.
-unfoldable pub withoutOnes : ℕ → List ℕ → Standing
-withoutOnes n lines = firstFrom isWeak (λ v. without n lines (v ∷ [])) stands 0 n
-
--- Station v and a higher one are taken away, the smallest second number first.
-unfoldable pub withoutSeconds : ℕ → List ℕ → ℕ → Standing
-withoutSeconds n lines v = firstFrom isWeak (λ w. without n lines (v ∷ (w ∷ []))) stands (v + 1) (n - (v + 1))
-
--- Two stations are taken away, the smallest first number first.
-unfoldable pub withoutTwos : ℕ → List ℕ → Standing
-withoutTwos n lines = firstFrom isWeak (withoutSeconds n lines) stands 0 n
-
--- Fewer than k stations, fewest first.
-unfoldable pub weakSpot : ℕ → ℕ → List ℕ → Standing
-weakSpot n k lines =
-    without n lines []
-    orElse pick (leb 2 k) (withoutOnes n lines) stands
-    orElse pick (leb 3 k) (withoutTwos n lines) stands
+use Rattle.parting.specs.Standing.{Standing}
+use Rattle.tries.specs.Tries.{weakSpot}
 
 -- The refusals: 1, 2, 12, lines.
 unfoldable pub weakJudged : ℕ → ℕ → List ℕ → Answer (Unit {0})

@@ -1,7 +1,7 @@
 -- `forests::check` meets its contract. What is not refused is a sound list with room for a plan, so it can be looked at. Assumes nothing.
 use Rattle.plans.proofs.Judging.{plan-good}
 use Rattle.plans.specs.Checking.{planJudged, checkAnswer}
-use Rattle.request.specs.Judging.{planShort}
+use Rattle.limits.specs.Limits.{planShort}
 use Rattle.kinds.specs.Answers.{taken, refusalAnswer, Answer.given}
 use lib.ListN.{length}
 use mathlib.Core.Path.{_≡_, sym, ap, _∙_}

@@ -2,7 +2,7 @@
 use Rattle.plans.proofs.Verdicts.{or-faulty, or-next}
 use Rattle.plans.specs.Checking.{ranksVerdict, roundsVerdict, planVerdict}
 use Rattle.plans.specs.Verdicts.{isFaulty}
-use Rattle.rounds.specs.Answers.{verdictSaid}
+use Rattle.entries.specs.Answers.{verdictSaid}
 use mathlib.Core.Bool.{true, false}
 use mathlib.Core.Path.{_≡_, sym, _∙_}
 use Rattle.forests.proofs.check_plan.Statement.{statement}

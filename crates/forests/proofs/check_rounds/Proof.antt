@@ -4,7 +4,7 @@ use Rattle.plans.specs.Verdicts.{Verdict, Verdict.accepted, isFaulty}
 use Rattle.rounds.specs.Tables.{Room}
 use Rattle.plans.specs.Orders.{orderOf}
 use Rattle.plans.specs.Checking.{roundVerdict, roundsVerdict}
-use Rattle.rounds.specs.Answers.{verdictSaid}
+use Rattle.entries.specs.Answers.{verdictSaid}
 use Rattle.laws.proofs.Lists.{part-next, part-fits}
 use Rattle.laws.proofs.Fold.{first-start, first-next, first-here, first-none}
 use Rattle.laws.specs.Fold.{firstFrom}

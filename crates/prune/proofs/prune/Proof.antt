@@ -10,13 +10,14 @@ use lib.Seq.{length-front, length-take-le}
 use lib.ListN.{length}
 use Rattle.laws.specs.Count.{count}
 use Rattle.kinds.specs.Answers.{Answer.given, taken, refusalAnswer}
-use Rattle.request.specs.Judging.{planShort, requestJudged}
+use Rattle.limits.specs.Limits.{planShort}
+use Rattle.request.specs.Judging.{requestJudged}
 use Rattle.request.specs.Requests.{Request}
 use Rattle.request.proofs.Judging.{request-good}
 use Rattle.kept.specs.Kept.{after}
 use Rattle.prune.specs.Pruning.{Rounds, pruneAnswer}
 use Rattle.kept.proofs.After.{written}
-use Rattle.request.proofs.Room.{room-enough}
+use Rattle.limits.proofs.Room.{room-enough}
 use Rattle.prune.proofs.prune.Statement.{statement}
 use Rattle.prune.proofs.prune.Tie as tie
 

@@ -6,7 +6,7 @@ use Rattle.rounds.proofs.Tables.{placed-below, lines-right, stations-ve
 use Rattle.rounds.proofs.Seeing.{Right}
 use Rattle.seen.specs.Tables.{Seen}
 use Rattle.plans.specs.Verdicts.{isFaulty}
-use Rattle.rounds.specs.Answers.{verdictSaid}
+use Rattle.entries.specs.Answers.{verdictSaid}
 use lib.ListN.{length}
 use mathlib.Core.Bool.{true, false}
 use mathlib.Core.Path.{_≡_, sym, subst, _∙_}

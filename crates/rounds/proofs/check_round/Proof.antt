@@ -4,8 +4,8 @@ use Rattle.plans.specs.Checking.{orderVerdict, stationsVerdict, linesVerdict, r
 use Rattle.plans.specs.Verdicts.{_orElse_, isFaulty}
 use Rattle.plans.proofs.Verdicts.{or-faulty, or-next}
 use Rattle.plans.proofs.Rounds.{order-each-once}
-use Rattle.rounds.proofs.Placing.{placed-none}
-use Rattle.rounds.specs.Answers.{verdictSaid}
+use Rattle.entries.proofs.Placing.{placed-none}
+use Rattle.entries.specs.Answers.{verdictSaid}
 use mathlib.Core.Bool.{true, false}
 use mathlib.Core.Path.{_≡_, sym, _∙_}
 use native.Mathlib.Omega.{arith}

@@ -1,7 +1,7 @@
 -- `tapuhzel::tapuhzel_check` meets its contract. In each arm the answer is that arm's constructor, and each number is the code of it.
 -- Assumes nothing.
 use Rattle.plans.specs.Checking.{checkAnswer}
-use Rattle.rounds.specs.Answers.{verdictSaid}
+use Rattle.entries.specs.Answers.{verdictSaid}
 use Rattle.kinds.specs.Answers.{Answer.given, refusalAnswer}
 use mathlib.Core.Path.{_≡_, sym, _∙_}
 use borrow.Author.Needs.{needs}
