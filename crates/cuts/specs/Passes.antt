@@ -96,7 +96,8 @@ pub record Unseen (n : ℕ) (away : ℕ → Bool) (s : List ℕ) : Type 0 where
   pub gone : (v : ℕ) → v < n → away v ≡ true → 1024 < getD s v 0
   pub fresh : (v : ℕ) → Remains n away v → getD s v 0 ≡ 0
 
--- What a visit leaves: each depth that was there, and, if it may begin so, all done.
+-- What a visit leaves: tables of the same sizes, and, if it may begin so, all done.
 pub record Visited (begins near s t : List ℕ) (cut₀ cut : List Bool) (u d low : ℕ) : Type 0 where
-  pub kept : (v : ℕ) → getD s v 0 ≢ 0 → getD t v 0 ≡ getD s v 0
+  pub size : length t ≡ length s
+  pub marks : length cut ≡ length cut₀
   pub ended : (lines : List ℕ) (away : ℕ → Bool) → Near (length s) lines begins near → Start (length s) lines away s u d → Ended (length s) lines away s t cut₀ cut u d low

@@ -3,23 +3,23 @@
 use borrow.Author.Needs.{needs}
 use borrow.Author.Tests.{not-true, not-false}
 use native.Mathlib.Omega.{arith}
-use Prim.Native.Nat.{ℕ, _+_, _-_, _<_, _≤_}
-use mathlib.Core.Path.{_≡_, refl, sym, ap, subst, _∙_}
-use mathlib.Core.Bool.{Bool, true, false}
-use lib.ListN.{length, getD, set, length-set}
+use Prim.Native.Nat.{ℕ, _-_, _<_}
+use mathlib.Core.Path.{_≡_, sym, subst, _∙_}
+use mathlib.Core.Bool.{true}
+use lib.ListN.{length}
 use Rattle.pieces.specs.Away.{isGone}
 use Rattle.neighbours.specs.Near.{Near}
 use Rattle.cuts.specs.Cuts.{SaysCuts}
 use Rattle.cuts.specs.Passes.{Unseen}
 use mathlib.Core.List.{List}
-use Rattle.cuts.proofs.Cuts.{visit-says, none-says, gone-more}
-use Rattle.cuts.proofs.Visits.{laid-still, unseen-most}
+use Rattle.cuts.proofs.Cuts.{none-says, gone-more}
+use Rattle.cuts.proofs.Visits.{laid-still}
 use Rattle.pieces.specs.Joined.{Remains, Whole}
 use Rattle.cuts.proofs.find_cuts.Statement.{statement}
 use Rattle.cuts.proofs.find_cuts.Tie as tie
 
 abbrev Inv-loop : tie.InvT-loop
-Inv-loop begins near gone depths₀ cut₀ count a₀ depths cut a = (length depths ≡ length gone) × (length cut ≡ length gone) × Unseen (length gone) (isGone gone) depths × ((i : ℕ) → i < a → isGone gone i ≡ true)
+Inv-loop begins near gone depths₀ cut₀ count a₀ depths cut a = (length depths ≡ length gone) × (length cut ≡ length gone) × Unseen (length depths) (isGone gone) depths × ((i : ℕ) → i < a → isGone gone i ≡ true)
 
 abbrev μ-loop : tie.MeasureT-loop
 μ-loop begins near gone depths₀ cut₀ count a₀ depths cut a = count - a
@@ -32,7 +32,7 @@ loop-holds c =
     let s = c .before .before .before .before .before .before .before .before .before in
     let a = s .args in
     let r = c .before .before .set-unseen in
-    (r .kept .1 .0 ∙ sym (s .pre .1), omega (arith, s .pre .0 .marks, s .pre .1), subst (λ (n : ℕ). Unseen n (isGone (a .gone .now)) (r .last .1 .0)) (sym (s .pre .1)) (r .ensures), λ i l. absurd (omega arith))
+    (r .kept .1 .0 ∙ sym (s .pre .1), omega (arith, s .pre .0 .marks, s .pre .1), subst (λ (n : ℕ). Unseen n (isGone (a .gone .now)) (r .last .1 .0)) (sym (r .kept .1 .0)) (r .ensures), λ i l. absurd (omega arith))
 
 shared-slice-read-if1 : tie.Need-shared-slice-read-if1 Inv-loop μ-loop
 shared-slice-read-if1 c = search needs
@@ -40,35 +40,32 @@ shared-slice-read-if1 c = search needs
 cast-t15 : tie.Need-cast-t15 Inv-loop μ-loop
 cast-t15 c = search needs
 
-visit-requires : tie.Need-visit-requires Inv-loop μ-loop
-visit-requires c κs =
+visit-from-requires : tie.Need-visit-from-requires Inv-loop μ-loop
+visit-from-requires c κs =
     let s = c .before .before .before .before .before .before .before .before .before .before .before .before .before .before .before in
     let a = s .args in
-    let l = c .before .before .before .before .before .loop in
-    let in-gone : l .a < length (a .gone .now) = omega (arith, s .pre .1, c .before .before .before .before .loop-test .taken) in (
+    let l = c .before .before .before .before .before .loop in (
       laid-still (a .begins .now) (a .near .now) (a .depths .now) (l .depths) (a .cut .now) (l .cut) (s .pre .0) (omega (arith, l .inv .0, s .pre .1)) (omega (arith, l .inv .1, s .pre .1, s .pre .0 .marks)),
-      omega (arith, l .inv .0, in-gone),
-      l .inv .2 .fresh (l .a) (record { station = in-gone; stays = not-true _ (c .before .before .if1 .taken) }),
-      omega arith,
-      omega (arith, unseen-most (l .depths), l .inv .0, s .pre .1, s .pre .0 .most),
+      omega (arith, l .inv .0, s .pre .1, c .before .before .before .before .loop-test .taken),
     )
 
 same-length : tie.Need-same-length Inv-loop μ-loop
-same-length c = c .before .before .before .before .visit .kept .1 .1 .1 .1 .0 ∙ (c .before .before .before .before .before .before .before .before .before .before .loop .inv .0 ∙ c .before .before .before .before .before .before .before .before .before .before .before .before .before .before .before .before .before .before .before .before .pre .1)
+same-length c = c .before .before .before .before .visit-from .kept .1 .1 .1 .0 ∙ (c .before .before .before .before .before .before .before .before .before .before .loop .inv .0 ∙ c .before .before .before .before .before .before .before .before .before .before .before .before .before .before .before .before .before .before .before .before .pre .1)
 
 same-length-2 : tie.Need-same-length-2 Inv-loop μ-loop
-same-length-2 c = c .before .before .before .before .visit .kept .1 .1 .1 .1 .1 .0 ∙ (c .before .before .before .before .before .before .before .before .before .before .loop .inv .1 ∙ (c .before .before .before .before .before .before .before .before .before .before .before .before .before .before .before .before .before .before .before .before .pre .1 ∙ sym (c .before .before .before .before .before .before .before .before .before .before .before .before .before .before .before .before .before .before .before .before .pre .0 .marks)))
+same-length-2 c =
+    let s = c .before .before .before .before .before .before .before .before .before .before .before .before .before .before .before .before .before .before .before .before in
+    omega (arith, c .before .before .before .before .visit-from .kept .1 .1 .1 .1 .0, c .before .before .before .before .before .before .before .before .before .before .loop .inv .1, s .pre .1, s .pre .0 .marks)
 
 returns : tie.Need-returns Inv-loop μ-loop
 returns c =
     let s = c .before .before .before .before .before .before .before .before .before .before .before .before .before .before .before .before .before .before .before .before in
     let a = s .args in
     let l = c .before .before .before .before .before .before .before .before .before .before .loop in
-    let v = c .before .before .before .before .visit in
-    let in-gone : l .a < length (a .gone .now) = omega (arith, s .pre .1, c .before .before .before .before .before .before .before .before .before .loop-test .taken) in
-    subst (λ (n : ℕ). (lines : List ℕ) → Near n lines (a .begins .now) (a .near .now) → Whole n lines (isGone (a .gone .now)) → SaysCuts n lines (isGone (a .gone .now)) (v .last .1 .1 .1 .1 .1 .0)) (s .pre .1)
-    (visit-says (length (a .gone .now)) (a .begins .now) (a .near .now) (isGone (a .gone .now)) (l .depths) (v .last .1 .1 .1 .1 .0) (l .cut) (v .last .1 .1 .1 .1 .1 .0) (l .a) (v .result .0)
-    (l .inv .0) (l .inv .2) (record { station = in-gone; stays = not-true _ (c .before .before .before .before .before .before .before .if1 .taken) }) (v .ensures))
+    let p = c .before .before .before .before .visit-from in
+    let remains : Remains (length (l .depths)) (isGone (a .gone .now)) (l .a) = record { station = omega (arith, l .inv .0, s .pre .1, c .before .before .before .before .before .before .before .before .before .loop-test .taken); stays = not-true _ (c .before .before .before .before .before .before .before .if1 .taken) } in
+    subst (λ (n : ℕ). (lines : List ℕ) → Near n lines (a .begins .now) (a .near .now) → Whole n lines (isGone (a .gone .now)) → SaysCuts n lines (isGone (a .gone .now)) (p .last .1 .1 .1 .1 .0)) (l .inv .0 ∙ s .pre .1)
+    (λ lines. p .ensures (isGone (a .gone .now)) lines (l .inv .2) remains)
 
 add-a : tie.Need-add-a Inv-loop μ-loop
 add-a c = search needs
@@ -85,7 +82,9 @@ same-length-3 : tie.Need-same-length-3 Inv-loop μ-loop
 same-length-3 c = c .before .loop .inv .0 ∙ c .before .before .before .before .before .before .before .before .before .before .before .pre .1
 
 same-length-4 : tie.Need-same-length-4 Inv-loop μ-loop
-same-length-4 c = c .before .loop .inv .1 ∙ (c .before .before .before .before .before .before .before .before .before .before .before .pre .1 ∙ sym (c .before .before .before .before .before .before .before .before .before .before .before .pre .0 .marks))
+same-length-4 c =
+    let s = c .before .before .before .before .before .before .before .before .before .before .before in
+    omega (arith, c .before .loop .inv .1, s .pre .1, s .pre .0 .marks)
 
 returns-2 : tie.Need-returns-2 Inv-loop μ-loop
 returns-2 c =
@@ -102,7 +101,7 @@ find-cuts-spec =
     loop-holds
     shared-slice-read-if1
     cast-t15
-    visit-requires
+    visit-from-requires
     same-length
     same-length-2
     returns
