@@ -1,4 +1,4 @@
--- What is found where the stations of a set are taken away, over the whole list.
+-- What is found where the stations of a set are taken away: nothing, or the two stations that it parts.
 -- Assumes nothing.
 use Prim.Native.Nat.{ℕ}
 use mathlib.Core.Bool.{Bool, true, false, not, _&&_}

@@ -6,6 +6,7 @@ use mathlib.Core.Logic.{_↔_}
 use mathlib.Core.Bool.{Bool, true, false, true≢false}
 use mathlib.Core.List.{List}
 use native.Mathlib.Omega.{arith}
+use borrow.Author.Tests.{ltb-false, le-ltb}
 use lib.Dec.{ltb}
 use lib.ListN.{length}
 use Rattle.laws.proofs.Truth.{ltb-exactly}
@@ -42,7 +43,7 @@ use Rattle.report.specs.Answers.{writtenAnswer}
 use Rattle.certificate.proofs.Calls.{pruned-checked}
 use Rattle.tapuhzel.specs.Calls.{said, pruneCall, checkCall, textCall}
 use Rattle.promises.specs.Contracts.{Tells}
-use Rattle.promises.specs.Promises.{CFace}
+use Rattle.promises.specs.Promises.{CSame, CFace}
 
 -- ── no row's number is 0 ──
 
@@ -185,6 +186,29 @@ text-five room output text = (λ e. ltb-exactly (length text) room .0 (go (ltb (
     go true e = refl
     go false e = absurd (omega arith)
 
+text-zero : (room : ℕ) (output text : List ℕ) → (textCall room output text .0 ≡ 0) ↔ (room ≤ length text)
+text-zero room output text = (λ e. ltb-false (length text) room (go (ltb (length text) room) e), λ h. rw (le-ltb (length text) room h))
+  where
+    go : (short : Bool) → writtenNumber (writtenAnswer short output) ≡ 0 → short ≡ false
+    go true e = absurd (omega arith)
+    go false e = refl
+
+-- THEOREM. What a call from C leaves is what the routine answers and leaves, in codes.
+pub c-same : CSame
+c-same =
+    record {
+      judge = λ call. rw (call .answer);
+      prune = λ call. rw (call .new-ranks, call .new-orders, call .answer);
+      check = λ call. rw (call .answer);
+      copy = λ call. rw (call .new-room, call .answer);
+      unite = λ call. rw (call .new-room, call .answer);
+      ask = λ call. rw (call .answer);
+      search-for-weak-spot = λ call. rw (call .answer);
+      read = λ call. rw (call .new-lines, call .new-starts, call .answer);
+      write = λ call. rw (call .new-bytes, call .answer);
+      write-text = λ call. rw (call .answer, call .new-text);
+    }
+
 -- THEOREM. The C face keeps what is promised of it.
 pub c-face : CFace
 c-face =
@@ -198,7 +222,8 @@ c-face =
       search-for-weak-spot = λ n k lines. tells (weak-follows n k lines) (weak-positive n k lines);
       read = λ bytes lines starts. tells (read-follows bytes lines starts) (then-positive (row-positive (omega arith)) (file-positive bytes));
       write = λ n k lines starts bytes. tells (write-follows n k lines starts bytes) (request-positive n k lines starts _);
-      write-text = text-five;
+      text-refused = text-five;
+      text-given = text-zero;
       yes-exactly = c-yes;
       ours-among-them = c-ours;
     }

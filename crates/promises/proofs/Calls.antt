@@ -1,10 +1,10 @@
 -- The promises of a routine's answer, from the theorems about the definition that its contract names.
 -- Assumes nothing.
-use Prim.Native.Nat.{ℕ, _+_, _*_, _/_, _<_, _≤_}
+use Prim.Native.Nat.{ℕ, _/_, _<_}
 use mathlib.Core.Path.{_≡_, refl, sym, ap, _∙_}
 use mathlib.Core.Logic.{_↔_}
 use mathlib.Core.Bool.{Bool, true, false}
-use mathlib.Core.List.{List, [], _++_}
+use mathlib.Core.List.{List, []}
 use native.Mathlib.Omega.{arith}
 use lib.ListN.{length, getD, take, drop, replicate}
 use lib.Seq.{getD-take}
@@ -13,15 +13,16 @@ use Rattle.kinds.specs.Answers.{Answer.given, isRefused}
 use Rattle.kinds.specs.declared.Judged.{Judged}
 use Rattle.kinds.specs.declared.Judged.the-variants.{Taken}
 use Rattle.network.specs.Faults.{Sound}
-use Rattle.network.specs.Orders.{EachOnce}
 use Rattle.network.proofs.Sound.{taken-sound, sound-taken}
 use Rattle.network.proofs.Determined.{judge-once}
 use Rattle.pieces.specs.Away.{isAway}
 use Rattle.pieces.specs.Joined.{Joined}
-use Rattle.scan.specs.Rule.{oneRound}
-use Rattle.kept.specs.Kept.{after}
+use Rattle.laws.specs.Fold.{upTo}
+use Rattle.laws.proofs.Fold.{upTo-more}
+use Rattle.kept.specs.Kept.{keptOf, after}
 use Rattle.kept.proofs.After.{front-written, later-written}
-use Rattle.prune.specs.Pruning.{pruned, allRounds}
+use Rattle.kept.proofs.Copying.{count-front}
+use Rattle.prune.specs.Pruning.{Rounds, rounds, nextRound, allRounds, pruned}
 use Rattle.prune.specs.Answers.{PruneAllows}
 use Rattle.prune.specs.declared.Pruned.the-variants.{Kept}
 use Rattle.prune.proofs.Plans.{part-is, pruned-size, pruned-ranks, pruned-filled, pruned-orders}
@@ -48,7 +49,6 @@ use Rattle.parting.specs.Answers.{spotStations}
 use Rattle.parting.specs.declared.WeakSpot.{WeakSpot}
 use Rattle.parting.specs.declared.Found.the-variants.{Stands, Weak}
 use Rattle.weakness.specs.Spots.{Searchable, StandsAt, IsWeakSpot}
-use Rattle.weakness.specs.Answers.{searchedAnswer}
 use Rattle.weakness.specs.declared.Searched.{Searched}
 use Rattle.weakness.specs.declared.Searched.the-variants.{Decided}
 use Rattle.weakness.proofs.Answers.{search-stands, search-weak}
@@ -69,19 +69,24 @@ judged-sound {n} {lines} {said} call = (
 -- Pruning that is not refused leaves what the rule gives.
 pub pruned-by-the-rule : {n k count : ℕ} {lines starts ranks orders ranks′ orders′ : List ℕ} → PruneAllows n k lines starts ranks orders (Kept count) ranks′ orders′
     → ByTheRule n k lines starts ranks orders count ranks′ orders′
-unfolding after orderOf pruned allRounds
+unfolding after orderOf pruned allRounds nextRound upTo
 pruned-by-the-rule {n} {k} {count} {lines} {starts} {ranks} {orders} {ranks′} {orders′} call =
     record {
       line-rounds = front;
       scan-orders = front-written orders e (call .new-orders) (pruned-filled n k lines starts);
-      each-round = λ i l. order-is i l ∙ part-is n lines starts (replicate (length lines / 2) 0) k i l;
+      no-round = refl;
+      each-line = λ i l. ap (λ (t : Rounds). t .ranks) (upTo-more (nextRound n lines starts) (rounds (replicate (length lines / 2) 0) []) i);
+      each-order = λ i l. order-is i l ∙ part-is n lines starts (replicate (length lines / 2) 0) k i l;
       each-station = λ i l. rw (order-is i l) (pruned-orders n k lines starts i l);
       ranks-most = λ p l. rw (rank-is p l) (pruned-ranks n k lines starts p);
-      counted = sym (given-request n k lines starts (length ranks) (length orders) (sym (call .answer)) .1);
+      counted = sym (ap (keptOf lines) (call .new-ranks) ∙ (count-front lines P (drop (length P) ranks) (pruned-size n k lines starts) ∙ given-request n k lines starts (length ranks) (length orders) (sym (call .answer)) .1));
       later-ranks = later-written (pruned n k lines starts .ranks) ranks e (call .new-ranks) (pruned-size n k lines starts);
       later-orders = later-written (pruned n k lines starts .orders) orders e (call .new-orders) (pruned-filled n k lines starts);
     }
   where
+    P : List ℕ
+    P = pruned n k lines starts .ranks
+
     e : _≡_ (given count) (given count)
     e = refl
 

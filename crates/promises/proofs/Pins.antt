@@ -1,9 +1,9 @@
--- Definitions say no less than they seem to: what they rule out, and the codes of C by example.
+-- Definitions say no less than they seem to: what they rule out.
 -- Assumes nothing.
 use Prim.Native.Nat.{ℕ}
 use mathlib.Core.Path.{_≡_, refl}
 use mathlib.Core.Bool.{Bool}
-use mathlib.Core.List.{List, [], _∷_}
+use mathlib.Core.List.{List}
 use native.Mathlib.Omega.{arith}
 use Rattle.network.specs.Lines.{network, Joins.forth, Joins.back}
 use Rattle.network.specs.Chains.{Hop.by, Chain.here, Chain.step, Every}

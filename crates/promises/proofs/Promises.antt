@@ -1,8 +1,6 @@
 -- THEOREM. All that Tapuhzel promises holds.
 -- Assumes nothing.
-use Prim.Native.Nat.{ℕ}
-use mathlib.Core.Path.{_≡_, refl, sym, _∙_}
-use mathlib.Core.List.{List}
+use mathlib.Core.Path.{refl, sym}
 use Rattle.kept.specs.Kept.{after}
 use Rattle.reading.specs.Reading.{linesAfter, startsAfter}
 use Rattle.writing.specs.Writing.{bytesAfter}
@@ -27,14 +25,18 @@ use Rattle.writing.proofs.Rows.{write-follows}
 use Rattle.writing.proofs.Determined.{write-once}
 use Rattle.writing.proofs.Calls.{written-then-read, read-then-written}
 use Rattle.programs.proofs.Determined.{text-once}
+use Rattle.tapuhzel.proofs.Determined.{call-once}
+use Rattle.pieces.proofs.Chains.{piece-lowest}
 use Rattle.certificate.proofs.Calls.{checked-copied, calls-given, calls-alike}
 use Rattle.certificate.proofs.Counterexample.{seven-not-alike, seven-no-plan}
 use Rattle.starred.proofs.Examples.{starred-right}
 use Rattle.promises.specs.Promises.{Demand1, Demand2, Demand3, Rules, Once, Pins, Promises}
 use Rattle.promises.proofs.Calls.{judged-sound, pruned-by-the-rule, checked-yes, checked-fault, pruned-then-checked, said-joined, said-apart, said-stands, said-weak, text-refused}
 use Rattle.promises.proofs.Pins.{lowest-once, triangle-joined}
-use Rattle.promises.proofs.CFace.{c-face}
+use Rattle.promises.proofs.CFace.{c-same, c-face}
 use Rattle.promises.proofs.Codes.{codes}
+use Rattle.promises.proofs.Example.{kept-from-file}
+use Rattle.promises.proofs.Fronts.{copied-front, united-front, read-just, read-fronts, file-front, text-front}
 
 demand-1 : Demand1
 unfolding after linesAfter startsAfter bytesAfter
@@ -78,12 +80,20 @@ demand-3 =
 rules : Rules
 rules =
     record {
+      copied = copied-front;
+      union-written = united-front;
       joined-exactly = said-joined;
       apart-exactly = said-apart;
       stands-exactly = said-stands;
       weak-exactly = λ call. said-weak call;
+      read-exactly = read-just;
+      read-written = read-fronts;
+      file-written = file-front;
       written-then-read = written-then-read;
       read-then-written = read-then-written;
+      keep-written = λ bytes call fits. text-front call fits;
+      weak-written = λ bytes call fits. text-front call fits;
+      keep-example = kept-from-file;
     }
 
 once : Once
@@ -99,17 +109,27 @@ once =
       read = read-once;
       write = write-once;
       write-text = text-once;
+      call = call-once;
     }
 
 pins : Pins
 pins =
     record {
       one-weak-spot = λ most. one-weak-spot most;
+      named = λ {n} {lines} {away} {v} sound stays. piece-lowest n lines away (sound .simple .proper) v stays;
       one-name = lowest-once;
       triangle-no-forest = triangle-joined;
       seven-not-alike = seven-not-alike;
       seven-no-plan = seven-no-plan;
+      judge-contract = λ e. record { answer = e };
+      check-contract = λ e. record { answer = e };
+      joined-contract = λ e. record { answer = e };
+      search-contract = λ e. record { answer = e };
+      prune-and-copy = λ {ranks = ranks} {orders} {ranks′} {orders′} {room} prunes copies ranks-fit orders-fit room-fits.
+          record { ranks = ranks; orders = orders; ranks′ = ranks′; orders′ = orders′; room = room; prunes = prunes; copies = copies; ranks-fit = ranks-fit; orders-fit = orders-fit; room-fits = room-fits };
+      union-calls = λ {room₁ = room₁} {room₂} {room} first second unites room-fits.
+          record { room₁ = room₁; room₂ = room₂; room = room; first = first; second = second; unites = unites; room-fits = room-fits };
     }
 
 pub promises : Promises
-promises = record { demand-1 = demand-1; demand-2 = demand-2; demand-3 = demand-3; rules = rules; once = once; pins = pins; c-face = c-face; codes = codes; examples = starred-right }
+promises = record { demand-1 = demand-1; demand-2 = demand-2; demand-3 = demand-3; rules = rules; once = once; pins = pins; c-same = c-same; c-face = c-face; codes = codes; examples = starred-right }

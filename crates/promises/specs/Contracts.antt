@@ -11,7 +11,7 @@ use Rattle.kinds.specs.declared.Judged.{Judged}
 use Rattle.network.specs.Judging.{listJudged}
 use Rattle.network.specs.Orders.{EachOnce}
 use Rattle.scan.specs.Rule.{oneRound}
-use Rattle.kept.specs.Kept.{keptCount}
+use Rattle.kept.specs.Kept.{keptOf}
 use Rattle.prune.specs.Pruning.{pruned}
 use Rattle.plans.specs.Orders.{orderOf}
 use Rattle.plans.specs.Checking.{checkAnswer}
@@ -24,7 +24,7 @@ use Rattle.weakness.specs.Search.{weakAnswer}
 use Rattle.weakness.specs.Answers.{searchedAnswer}
 use Rattle.weakness.specs.declared.Searched.{Searched}
 
--- `network::judge`.
+-- `judging::judge`.
 pub record JudgeAllows (n : ℕ) (lines : List ℕ) (said : Judged) : Type 0 where
   pub answer : judgedAnswer said ≡ listJudged 0 n lines
 
@@ -40,16 +40,24 @@ pub record JoinedAllows (n : ℕ) (lines away : List ℕ) (a b : ℕ) (said : An
 pub record SearchAllows (n k : ℕ) (lines : List ℕ) (said : Searched) : Type 0 where
   pub answer : searchedAnswer said ≡ weakAnswer n k lines
 
--- What pruning leaves: of m lines, m ranks; k orders of n entries; the count of kept lines; and later places as they were.
+-- What pruning leaves: of m lines, m ranks; k orders of n entries; the count of kept lines; and later places as they were. No line has a rank before
+-- the first round; the round after i others is one round of the rule, from its own starting station.
 pub record ByTheRule (n k : ℕ) (lines starts ranks orders : List ℕ) (count : ℕ) (ranks′ orders′ : List ℕ) : Type 0 where
   pub line-rounds : take (length lines / 2) ranks′ ≡ pruned n k lines starts .ranks
   pub scan-orders : take (k * n) orders′ ≡ pruned n k lines starts .orders
-  pub each-round : (i : ℕ) → i < k → orderOf n orders′ i ≡ oneRound n lines (i + 1) (getD starts i 0) (pruned n i lines starts .ranks) .order
+  pub no-round : pruned n 0 lines starts .ranks ≡ replicate (length lines / 2) 0
+  pub each-line : (i : ℕ) → i < k → pruned n (i + 1) lines starts .ranks ≡ oneRound n lines (i + 1) (getD starts i 0) (pruned n i lines starts .ranks) .ranks
+  pub each-order : (i : ℕ) → i < k → orderOf n orders′ i ≡ oneRound n lines (i + 1) (getD starts i 0) (pruned n i lines starts .ranks) .order
   pub each-station : (i : ℕ) → i < k → EachOnce n (orderOf n orders′ i)
   pub ranks-most : (p : ℕ) → p < length lines / 2 → getD ranks′ p 0 ≤ k
-  pub counted : count ≡ keptCount (pruned n k lines starts .ranks)
+  pub counted : count ≡ keptOf lines ranks′
   pub later-ranks : drop (length lines / 2) ranks′ ≡ drop (length lines / 2) ranks
   pub later-orders : drop (k * n) orders′ ≡ drop (k * n) orders
+
+-- "Writes from the front of its buffers what is stated and leaves later places untouched".
+pub record Front (new room room′ : List ℕ) : Type 0 where
+  pub written : take (length new) room′ ≡ new
+  pub later : drop (length new) room′ ≡ drop (length new) room
 
 -- A call's number, place and list tell its rows: three zeros where none holds, else the first that does, whose number is not 0.
 pub record Tells (said : ℕ × ℕ × ℕ) (rows : Rows) : Type 0 where
