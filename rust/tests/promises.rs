@@ -12,9 +12,14 @@ fn map() -> String {
 
 /// The promises: each field of a record of the file that states them, as Record.field.
 fn promises() -> Vec<String> {
+    fields("crates/promises/specs/Promises.antt")
+}
+
+/// Each field of a file's records, as Record.field.
+fn fields(file: &str) -> Vec<String> {
     let mut record = String::new();
     let mut promises = Vec::new();
-    for line in text("crates/promises/specs/Promises.antt").lines() {
+    for line in text(file).lines() {
         if let Some(rest) = line.strip_prefix("pub record ") {
             record = rest.split(' ').next().unwrap_or_default().to_string();
         } else if let Some((field, _)) = line.strip_prefix("  pub ").and_then(|rest| rest.split_once(" :")) {
@@ -28,20 +33,21 @@ fn promises() -> Vec<String> {
 fn every_promise_is_in_the_map() {
     let (map, promises) = (map(), promises());
     assert!(promises.len() > 60, "only {} promises are found", promises.len());
-    let parts = ["demand-1", "demand-2", "demand-3", "rules", "once", "pins", "c-face", "codes"].map(|part| format!("Promises.{part}"));
-    for promise in promises.iter().filter(|promise| !parts.contains(promise)) {
+    // What the record of all promises has of the others is told by their own fields.
+    let told = |promise: &&String| !promise.starts_with("Promises.") || promise.ends_with(".examples");
+    for promise in promises.iter().filter(told).chain(&fields("crates/promises/specs/Contracts.antt")) {
         assert!(map.contains(&format!("`{promise}`")), "docs/PROMISES.md does not name {promise}");
     }
 }
 
 #[test]
 fn every_promise_of_the_map_is_stated() {
-    let promises = promises();
-    let records = ["Demand1.", "Demand2.", "Demand3.", "Rules.", "Once.", "Pins.", "CFace.", "Codes.", "Promises."];
+    let stated = [promises(), fields("crates/promises/specs/Contracts.antt")].concat();
+    let records: BTreeSet<&str> = stated.iter().filter_map(|promise| Some(promise.split_once('.')?.0)).collect();
     let map = map();
-    let named = map.split('`').filter(|word| records.iter().any(|record| word.starts_with(record) && !word.contains(' ')));
-    for name in named.filter(|name| !name.ends_with(".antt")) {
-        assert!(promises.contains(&name.to_string()), "docs/PROMISES.md names {name}, which no record states");
+    let named = map.split('`').filter(|word| word.split_once('.').is_some_and(|(record, _)| records.contains(record)));
+    for name in named {
+        assert!(stated.contains(&name.to_string()), "docs/PROMISES.md names {name}, which no record states");
     }
 }
 
@@ -65,7 +71,45 @@ fn every_name_of_the_map_is_in_its_file() {
     let named = named_in_files(&map());
     assert!(named.len() > 100, "only {} names are found", named.len());
     for (name, file) in named {
-        assert!(text(&file).contains(&name), "docs/PROMISES.md has {name} in {file}, which has it not");
+        assert!(declares(&text(&file), &name), "docs/PROMISES.md has {name} in {file}, which declares it not");
+    }
+}
+
+/// Whether a text of Rattle or antt declares a name: a definition, a law, a function, a type.
+fn declares(text: &str, name: &str) -> bool {
+    let forms = ["record ", "data ", "fn ", "struct ", "enum "];
+    let ends = |rest: &str| !rest.starts_with(|letter: char| letter.is_alphanumeric() || "_-′".contains(letter));
+    text.lines().any(|line| {
+        let line = line.trim_start();
+        let law = ["", "pub ", "abbrev pub ", "unfoldable pub ", "abbrev ", "unfoldable "];
+        let defined = law.iter().any(|form| line.strip_prefix(form).and_then(|rest| rest.strip_prefix(name)).is_some_and(|rest| rest.starts_with(" :")));
+        defined || forms.iter().any(|form| line.split(form).nth(1).and_then(|rest| rest.strip_prefix(name)).is_some_and(ends))
+    })
+}
+
+/// Each routine of the C face and the value of specs/Calls that all it leaves is equal to.
+const CALLS: [(&str, &str); 11] = [
+    ("judge", "judgeCall"),
+    ("prune", "pruneCall"),
+    ("check", "checkCall"),
+    ("copy", "copyCall"),
+    ("unite", "uniteCall"),
+    ("joined", "joinedCall"),
+    ("weak", "weakCall"),
+    ("read", "readCall"),
+    ("write", "writeCall"),
+    ("keep_text", "textCall 524416 (keepOutput"),
+    ("weak_text", "textCall 256 (weakOutput"),
+];
+
+#[test]
+fn every_routine_of_the_c_face_has_its_contract() {
+    let sources: String = names("crates/tapuhzel/src", ".rt").iter().map(|name| text(&format!("crates/tapuhzel/src/{name}.rt"))).collect();
+    assert_eq!(sources.matches("pub extern \"C\" fn").count(), CALLS.len(), "the C face has other routines");
+    for (routine, value) in CALLS {
+        let declared = sources.split(&format!("fn tapuhzel_{routine}(")).nth(1).unwrap_or_default();
+        let contract = declared.split("\n{\n").next().unwrap_or_default();
+        assert!(contract.contains(&format!("≡ {value} ")), "tapuhzel_{routine} does not say that it leaves {value}");
     }
 }
 

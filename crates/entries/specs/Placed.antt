@@ -1,5 +1,5 @@
 -- What the test of entries remembers: where each station stands in the round's order.
--- Assumes nothing.
+-- Only the helpers speak of it. Assumes nothing.
 use Prim.Native.Nat.{ℕ, _<_}
 use mathlib.Core.Path.{_≡_}
 use mathlib.Core.List.{List}

@@ -1,5 +1,5 @@
 -- How a look speaks of its answer: what is parted where some stations are taken away.
--- Assumes nothing.
+-- Only the helpers speak of it. Assumes nothing.
 use Prim.Native.Nat.{ℕ}
 use mathlib.Core.Bool.{Bool, not, _&&_}
 use mathlib.Core.List.{List}

@@ -8,11 +8,10 @@ use borrow.Author.Tests.{le-ltb}
 use lib.ListN.{length}
 use Rattle.kinds.specs.Answers.{taken, isRefused, _andThen_}
 use Rattle.kinds.proofs.Answers.{then-both, passed}
-use Rattle.limits.specs.Limits.{stationsJudged, lengthJudged, levelJudged, roomJudged}
+use Rattle.limits.specs.Limits.{stationsJudged, lengthJudged, levelJudged, roomJudged, planShort}
 use Rattle.limits.proofs.Limits.{level-good}
 use Rattle.network.specs.Judging.{linesJudged}
 use Rattle.network.proofs.Sound.{parts-sound, within-taken, lines-only, sound-taken}
-use Rattle.limits.specs.Limits.{planShort}
 use Rattle.limits.proofs.Room.{room-enough, enough-room}
 use Rattle.plans.specs.Checking.{planJudged}
 use Rattle.plans.specs.Checkable.{Checkable}

@@ -5,9 +5,8 @@ use mathlib.Core.List.{List}
 use lib.ListN.{length}
 use Rattle.kinds.specs.Rows.{Follows}
 use Rattle.kinds.proofs.Rows.{then-follows, given-follows}
-use Rattle.limits.proofs.Rows.{stations-follows, length-follows, level-follows, room-follows}
+use Rattle.limits.proofs.Rows.{stations-follows, length-follows, level-follows, room-follows, plan-short-exactly}
 use Rattle.network.proofs.Rows.{lines-follows}
-use Rattle.limits.proofs.Rows.{plan-short-exactly}
 use Rattle.plans.specs.Checking.{planVerdict, planJudged, checkAnswer}
 use Rattle.plans.specs.Rows.{checkRows}
 

@@ -8,9 +8,8 @@ use lib.Dec.{ltb, leb, eqb}
 use Rattle.laws.specs.Fold.{pick, upTo, firstFrom, anyFrom, lowest}
 use Rattle.kinds.specs.Answers.{Answer, Answer.given, _andThen_}
 use Rattle.network.specs.Lines.{endOne, endTwo}
-use Rattle.limits.specs.Limits.{stationsJudged, lengthJudged, levelJudged, roomJudged}
+use Rattle.limits.specs.Limits.{stationsJudged, lengthJudged, levelJudged, roomJudged, planShort}
 use Rattle.network.specs.Judging.{sameEnds, linesJudged}
-use Rattle.limits.specs.Limits.{planShort}
 use Rattle.plans.specs.Orders.{orderOf, positionOf}
 use Rattle.plans.specs.Verdicts.{Kind.A, Kind.B, Kind.C, Kind.D, Kind.E, Verdict, Verdict.accepted, faultIf, _orElse_, isFaulty}
 

@@ -4,9 +4,8 @@ use Prim.Native.Nat.{ℕ}
 use mathlib.Core.List.{List}
 use lib.ListN.{length}
 use Rattle.kinds.specs.Rows.{Rows, _thenTry_}
-use Rattle.limits.specs.Rows.{stationsRow, lengthRow, levelRow, roomRow}
+use Rattle.limits.specs.Rows.{stationsRow, lengthRow, levelRow, roomRow, PlanShort}
 use Rattle.network.specs.Rows.{linesRows}
-use Rattle.limits.specs.Rows.{PlanShort}
 
 abbrev pub checkRows : ℕ → ℕ → (lines ranks orders : List ℕ) → Rows
 checkRows n k lines ranks orders =

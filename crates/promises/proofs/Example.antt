@@ -6,9 +6,8 @@ use mathlib.Core.Bool.{false}
 use mathlib.Core.List.{List, [], _∷_}
 use Rattle.kinds.specs.Answers.{Answer.given}
 use Rattle.laws.specs.Fold.{upTo, firstFrom}
-use Rattle.limits.specs.Limits.{stationsJudged, lengthJudged, levelJudged, roomJudged}
+use Rattle.limits.specs.Limits.{stationsJudged, lengthJudged, levelJudged, roomJudged, planShort}
 use Rattle.network.specs.Judging.{sameEnds, endsJudged, lineJudged, linesJudged}
-use Rattle.limits.specs.Limits.{planShort}
 use Rattle.request.specs.Judging.{startCountJudged, startJudged, startsJudged, sizesJudged, requestJudged}
 use Rattle.scan.specs.Rule.{takeTo, takeLine, scanStation, ready, fresh, nextStation, scanAs, scanNext, allScanned, oneRound}
 use Rattle.kept.specs.Kept.{keptCount}

@@ -1,5 +1,5 @@
 -- What the rounds' helper asks of its arguments: a level, a starting station for each round, and room for the orders.
--- Assumes nothing.
+-- Only the helpers speak of it. Assumes nothing.
 use Prim.Native.Nat.{ℕ, _*_, _<_, _≤_}
 use mathlib.Core.Path.{_≡_}
 use mathlib.Core.List.{List}

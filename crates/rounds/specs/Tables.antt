@@ -1,5 +1,5 @@
 -- The tables of one round's check, and its verdicts by the tables of what is seen.
--- Assumes nothing.
+-- Only the helpers speak of it. Assumes nothing.
 use Prim.Native.Nat.{ℕ, _/_}
 use mathlib.Core.Path.{_≡_}
 use mathlib.Core.Bool.{Bool, false, not, _&&_}

@@ -1,5 +1,5 @@
 -- What a search for the lowest station found: whether there is one, and which (0 where there is none).
--- Assumes nothing.
+-- Only the helpers speak of it. Assumes nothing.
 use Prim.Native.Nat.{ℕ}
 use mathlib.Core.Bool.{Bool, true, false}
 use Rattle.scan.specs.declared.Lowest.{Lowest}

@@ -1,6 +1,6 @@
 -- What is seen of a round's lines, by position: tables filled line by line, in which each station's earliest earlier neighbour is found; and
 -- the trees that follow from it.
--- Assumes nothing.
+-- Only the helpers speak of it. Assumes nothing.
 use Prim.Native.Nat.{ℕ, _/_, _<_}
 use mathlib.Core.Path.{_≡_}
 use mathlib.Core.Bool.{Bool, true, false}

@@ -3,9 +3,8 @@
 use mathlib.Core.Path.{refl}
 use native.Mathlib.Omega.{arith}
 use Rattle.laws.specs.Fold.{upTo, firstFrom}
-use Rattle.limits.specs.Limits.{stationsJudged, lengthJudged, levelJudged, roomJudged, weakLevelJudged}
+use Rattle.limits.specs.Limits.{stationsJudged, lengthJudged, levelJudged, roomJudged, weakLevelJudged, planShort}
 use Rattle.network.specs.Judging.{sameEnds, endsJudged, lineJudged, linesJudged, listJudged}
-use Rattle.limits.specs.Limits.{planShort}
 use Rattle.request.specs.Judging.{startCountJudged, startJudged, startsJudged, sizesJudged, requestJudged}
 use Rattle.scan.specs.Rule.{takeTo, takeLine, scanStation, ready, fresh, nextStation, scanAs, scanNext, allScanned, oneRound}
 use Rattle.kept.specs.Kept.{keptCount, copyLine, keptLines}

@@ -1,5 +1,5 @@
 -- How the search speaks of the tables of its passes: which station, with those taken away already, parts two others.
--- Assumes nothing.
+-- Only the helpers speak of it. Assumes nothing.
 use Prim.Native.Nat.{ℕ, _-_, _<_, _≤_}
 use mathlib.Core.Path.{_≡_}
 use mathlib.Core.Bool.{Bool, false}

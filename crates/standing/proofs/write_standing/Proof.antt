@@ -4,8 +4,7 @@ use mathlib.Core.Path.{ap}
 use borrow.Author.Tests.{lt-ltb, le-ltb}
 use borrow.Author.Needs.{needs}
 use Rattle.report.specs.declared.Written.the-variants.{Bytes}
-use Rattle.standing.specs.Text.{weakShort}
-use Rattle.standing.specs.Text.{weakText}
+use Rattle.standing.specs.Text.{weakShort, weakText}
 use Rattle.report.proofs.Writing.{puts-then, puts-front}
 use Rattle.standing.proofs.write_standing.Statement.{statement}
 use Rattle.standing.proofs.write_standing.Tie as tie
