@@ -15,7 +15,7 @@ use Rattle.pieces.specs.Away.{isGone}
 use Rattle.neighbours.specs.Near.{Near}
 use Rattle.cuts.specs.Cuts.{andAway, SaysCuts}
 use Rattle.cuts.specs.Passes.{Seen, New, Right, Start, Grown, Ended, Unseen, Visited, firstDepth}
-use Rattle.cuts.proofs.Passes.{besides-stays, besides-other}
+use Rattle.cuts.proofs.Seen.{besides-stays, besides-other}
 
 -- A table of first depths is one of stations not seen.
 pub first-unseen : (n : ℕ) (gone : List Bool) (s : List ℕ) → ((v : ℕ) → v < n → getD s v 0 ≡ firstDepth (isGone gone v)) → Unseen n (isGone gone) s
