@@ -9,7 +9,7 @@ use Rattle.laws.specs.Fold.{upTo, firstFrom}
 use Rattle.limits.specs.Limits.{stationsJudged, lengthJudged, levelJudged, roomJudged, planShort}
 use Rattle.network.specs.Judging.{sameEnds, endsJudged, lineJudged, linesJudged}
 use Rattle.request.specs.Judging.{startCountJudged, startJudged, startsJudged, sizesJudged, requestJudged}
-use Rattle.scan.specs.Rule.{takeTo, takeLine, scanStation, ready, fresh, nextStation, scanAs, scanNext, allScanned, oneRound}
+use Rattle.rule.specs.Rule.{takeTo, takeLine, scanStation, ready, fresh, nextStation, scanAs, scanNext, allScanned, oneRound}
 use Rattle.kept.specs.Kept.{keptCount}
 use Rattle.prune.specs.Pruning.{nextRound, allRounds, pruned, pruneAnswer}
 use Rattle.request.specs.Requests.{Request}

@@ -10,7 +10,7 @@ use Rattle.kinds.specs.Rows.{Rows, NoneOf}
 use Rattle.kinds.specs.declared.Judged.{Judged}
 use Rattle.network.specs.Judging.{listJudged}
 use Rattle.network.specs.Orders.{EachOnce}
-use Rattle.scan.specs.Rule.{oneRound}
+use Rattle.rule.specs.Rule.{oneRound}
 use Rattle.kept.specs.Kept.{keptOf}
 use Rattle.prune.specs.Pruning.{pruned}
 use Rattle.plans.specs.Orders.{orderOf}

@@ -12,8 +12,8 @@ use lib.Seq.{drop-at, take-all, take-append-le, drop-append-le}
 use Rattle.laws.specs.Fold.{upTo}
 use Rattle.laws.proofs.Lists.{part-next, part-fits, replicate-at}
 use Rattle.network.specs.Orders.{EachOnce}
-use Rattle.scan.specs.Rule.{oneRound}
-use Rattle.scan.proofs.Order.{round-each-once, round-ranked, round-size}
+use Rattle.rule.specs.Rule.{oneRound}
+use Rattle.rule.proofs.Order.{round-each-once, round-ranked, round-size}
 use Rattle.prune.specs.Pruning.{Rounds, rounds, nextRound, allRounds, pruned}
 
 module _ (n : ℕ) (lines starts : List ℕ) (ranks : List ℕ) where

@@ -6,7 +6,7 @@ use mathlib.Core.List.{List, _++_}
 use native.Mathlib.Omega.{arith}
 use lib.ListN.{length, getD, take, drop, length-append}
 use Rattle.laws.proofs.Lists.{part-back}
-use Rattle.scan.specs.Rule.{oneRound}
+use Rattle.rule.specs.Rule.{oneRound}
 use Rattle.prune.specs.Pruning.{Rounds, nextRound}
 
 pub record OneMore (n : ℕ) (lines starts : List ℕ) (i at : ℕ) (s : Rounds) (d orders r part : List ℕ) : Type 0 where

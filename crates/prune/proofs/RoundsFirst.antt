@@ -11,10 +11,10 @@ use lib.ListN.{length, getD, take, drop, replicate, length-replicate}
 use Rattle.laws.specs.Fold.{upTo}
 use Rattle.laws.proofs.Lists.{replicate-at}
 use Rattle.network.specs.Lines.{network, Joins, Simple}
-use Rattle.scan.specs.Rule.{oneRound}
-use Rattle.scan.proofs.Takes.{Leads}
-use Rattle.scan.proofs.Reached.{Neighbour}
-use Rattle.scan.proofs.First.{ScanFirst, round-scan-first}
+use Rattle.rule.specs.Rule.{oneRound}
+use Rattle.rule.proofs.Takes.{Leads}
+use Rattle.rule.proofs.Reached.{Neighbour}
+use Rattle.rule.proofs.First.{ScanFirst, round-scan-first}
 use Rattle.prune.specs.Pruning.{nextRound, allRounds, pruned}
 use Rattle.prune.proofs.Plans.{Done, ranked, sized, part-is}
 

@@ -8,7 +8,7 @@ use Rattle.kinds.specs.Answers.{Answer, Answer.given, _andThen_}
 use Rattle.kept.specs.Kept.{keptCount}
 use Rattle.limits.specs.Limits.{planShort}
 use Rattle.request.specs.Judging.{requestJudged}
-use Rattle.scan.specs.Rule.{oneRound}
+use Rattle.rule.specs.Rule.{oneRound}
 
 -- What the rounds make: the lines' ranks, and the rounds' orders, n places to a round.
 pub record Rounds : Type 0 where

@@ -12,7 +12,7 @@ ghost use mathlib.Core.Path.{_≡_};
 ghost use Prim.Native.Nat.{_*_, _/_, _≤_, _<_};
 ghost use lib.ListN.{length, replicate};
 ghost use Rattle.kept.specs.Kept.{keptCount};
-ghost use Rattle.scan.specs.Rule.{Laid, Room};
+ghost use Rattle.scan.specs.Asked.{Laid, Room};
 ghost use Rattle.prune.specs.Answers.{PruneAllows};
 ghost use Rattle.prune.specs.Pruning.{rounds, allRounds, pruned};
 ghost use Rattle.prune.specs.Sizes.{InOrder};

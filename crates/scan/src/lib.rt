@@ -9,7 +9,8 @@ ghost use mathlib.Core.Bool.{false};
 ghost use Prim.Native.Nat.{ℕ, _≤_, _<_};
 ghost use lib.ListN.{length, replicate};
 ghost use Rattle.laws.specs.Fold.{anyFrom, lowest};
-ghost use Rattle.scan.specs.Rule.{Laid, Room, marks, takeTo, takeLine, scanStation, ready, fresh, nextStation, scanning, scanNext, allScanned, oneRound};
+ghost use Rattle.rule.specs.Rule.{marks, takeTo, takeLine, scanStation, ready, fresh, nextStation, scanning, scanNext, allScanned, oneRound};
+ghost use Rattle.scan.specs.Asked.{Laid, Room};
 ghost use Rattle.scan.specs.Lowest.{isFound, stationFound};
 
 // The lowest station that a search found, if it found one.

@@ -7,7 +7,7 @@ use native.Mathlib.Omega.{arith}
 use borrow.Author.Needs.{needs}
 use Rattle.laws.specs.Fold.{firstFrom, lowest}
 use Rattle.laws.proofs.Fold.{first-start, first-next, first-here, first-none}
-use Rattle.scan.specs.Rule.{fresh}
+use Rattle.rule.specs.Rule.{fresh}
 use Rattle.scan.proofs.lowest_fresh.Statement.{statement}
 use Rattle.scan.proofs.lowest_fresh.Tie as tie
 

@@ -8,7 +8,7 @@ use native.Mathlib.Omega.{arith}
 use borrow.Author.Needs.{needs}
 use Rattle.laws.specs.Fold.{firstFrom, anyFrom, lowest}
 use Rattle.laws.proofs.Fold.{first-start, first-next, first-here, first-none}
-use Rattle.scan.specs.Rule.{ready}
+use Rattle.rule.specs.Rule.{ready}
 use Rattle.scan.proofs.lowest_ready.Statement.{statement}
 use Rattle.scan.proofs.lowest_ready.Tie as tie
 

@@ -4,7 +4,7 @@ use mathlib.Core.Bool.{true, false}
 use borrow.Author.Needs.{needs}
 use Rattle.laws.specs.Fold.{anyFrom, lowest}
 use Rattle.laws.proofs.Fold.{lowest-below}
-use Rattle.scan.specs.Rule.{ready, fresh, nextStation}
+use Rattle.rule.specs.Rule.{ready, fresh, nextStation}
 use Rattle.scan.specs.Lowest.{stationFound}
 use Rattle.scan.proofs.next_station.Statement.{statement}
 use Rattle.scan.proofs.next_station.Tie as tie

@@ -10,7 +10,7 @@ use lib.Seq.{drop-length}
 use Rattle.laws.specs.Fold.{upTo}
 use Rattle.laws.proofs.Fold.{upTo-more}
 use Rattle.laws.proofs.Lists.{store-next}
-use Rattle.scan.specs.Rule.{Scanning, scanning, scanNext, allScanned}
+use Rattle.rule.specs.Rule.{Scanning, scanning, scanNext, allScanned}
 use Rattle.scan.proofs.scan_all.Statement.{statement}
 use Rattle.scan.proofs.scan_all.Tie as tie
 

@@ -6,7 +6,7 @@ use mathlib.Core.List.{[], _∷_, _++_}
 use native.Mathlib.Omega.{arith}
 use borrow.Author.Needs.{needs}
 use lib.ListN.{set, length-set}
-use Rattle.scan.specs.Rule.{Marks, scanning, scanAs, scanNext}
+use Rattle.rule.specs.Rule.{Marks, scanning, scanAs, scanNext}
 use Rattle.scan.proofs.scan_next.Statement.{statement}
 use Rattle.scan.proofs.scan_next.Tie as tie
 

@@ -6,7 +6,7 @@ use mathlib.Core.List.{List, []}
 use native.Mathlib.Omega.{arith}
 use borrow.Author.Needs.{needs}
 use lib.ListN.{set, replicate, length-set}
-use Rattle.scan.specs.Rule.{scanning, allScanned, oneRound}
+use Rattle.rule.specs.Rule.{scanning, allScanned, oneRound}
 use Rattle.scan.proofs.scan_round.Statement.{statement}
 use Rattle.scan.proofs.scan_round.Tie as tie
 

@@ -7,7 +7,7 @@ use borrow.Author.Needs.{needs}
 use lib.ListN.{length}
 use Rattle.laws.specs.Fold.{upTo}
 use Rattle.laws.proofs.Fold.{upTo-more}
-use Rattle.scan.specs.Rule.{marks, takeLine, scanStation}
+use Rattle.rule.specs.Rule.{marks, takeLine, scanStation}
 use Rattle.scan.proofs.scan_station.Statement.{statement}
 use Rattle.scan.proofs.scan_station.Tie as tie
 

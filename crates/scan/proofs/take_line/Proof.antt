@@ -3,7 +3,7 @@ use mathlib.Core.Path.{_∙_}
 use native.Mathlib.Omega.{arith}
 use borrow.Author.Tests.{eq-eqb, ne-eqb}
 use borrow.Author.Needs.{needs}
-use Rattle.scan.specs.Rule.{takeLine}
+use Rattle.rule.specs.Rule.{takeLine}
 use Rattle.scan.proofs.take_line.Statement.{statement}
 use Rattle.scan.proofs.take_line.Tie as tie
 

@@ -1,7 +1,7 @@
 -- `scan::take_to` meets its contract. Each return rewrites by the tests that led to it. Assumes nothing.
 use borrow.Author.Tests.{eq-eqb, ne-eqb}
 use borrow.Author.Needs.{needs}
-use Rattle.scan.specs.Rule.{takeTo}
+use Rattle.rule.specs.Rule.{takeTo}
 use Rattle.scan.proofs.take_to.Statement.{statement}
 use Rattle.scan.proofs.take_to.Tie as tie
 

@@ -12,7 +12,7 @@ use lib.Seq.{getD-set-same, getD-set-other, set-out}
 use Rattle.laws.specs.Fold.{pick}
 use Rattle.laws.proofs.Fold.{upTo-keeps}
 use Rattle.network.specs.Lines.{endOne, endTwo}
-use Rattle.scan.specs.Rule.{Marks, marks, takeTo, takeLine, scanStation}
+use Rattle.rule.specs.Rule.{Marks, marks, takeTo, takeLine, scanStation}
 
 -- From s to t marks were only added, and no rank is above the bound if none was.
 pub record Grown (bound : ℕ) (s t : Marks) : Type 0 where

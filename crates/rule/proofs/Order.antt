@@ -16,8 +16,8 @@ use Rattle.laws.proofs.Fold.{FoundAt, FoundNone, first-cases, first-all, any-so
 use Rattle.laws.proofs.Lists.{replicate-at}
 use Rattle.laws.proofs.Count.{count-none, count-all, count-full, count-one-more}
 use Rattle.network.specs.Orders.{EachOnce}
-use Rattle.scan.specs.Rule.{marks, Scanning, scanStation, ready, fresh, nextStation, scanAs, scanNext, roundStart, allScanned, oneRound}
-use Rattle.scan.proofs.Marks.{Grown, stored, scan-grown}
+use Rattle.rule.specs.Rule.{marks, Scanning, scanStation, ready, fresh, nextStation, scanAs, scanNext, roundStart, allScanned, oneRound}
+use Rattle.rule.proofs.Marks.{Grown, stored, scan-grown}
 
 -- Where a round stands after i scans.
 pub record Halfway (n i : ℕ) (s : Scanning) : Type 0 where

@@ -14,8 +14,8 @@ use lib.ListN.{length, getD, set}
 use lib.Seq.{getD-set-same, getD-set-other}
 use Rattle.laws.specs.Fold.{pick, upTo}
 use Rattle.network.specs.Lines.{endOne, endTwo, Network, network, Joins, Joins.forth, Joins.back, Simple}
-use Rattle.scan.specs.Rule.{Marks, marks, takeTo, takeLine, scanStation}
-use Rattle.scan.proofs.Marks.{Grown, grown-none, grown-more, take-line-grown}
+use Rattle.rule.specs.Rule.{Marks, marks, takeTo, takeLine, scanStation}
+use Rattle.rule.proofs.Marks.{Grown, grown-none, grown-more, take-line-grown}
 use Rattle.network.proofs.Chains.{joins-back}
 use Rattle.laws.proofs.Truth.{not-so}
 

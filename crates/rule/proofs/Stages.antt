@@ -11,8 +11,8 @@ use lib.ListN.{length, getD, List·getD-append}
 use lib.Seq.{getD-append-seam}
 use Rattle.laws.specs.Fold.{pick, upTo, lowest}
 use Rattle.laws.proofs.Fold.{FoundAt, FoundNone, first-cases, some-any}
-use Rattle.scan.specs.Rule.{Scanning, ready, nextStation, scanAs, scanNext, roundStart, allScanned, oneRound}
-use Rattle.scan.proofs.Order.{Halfway, halfway}
+use Rattle.rule.specs.Rule.{Scanning, ready, nextStation, scanAs, scanNext, roundStart, allScanned, oneRound}
+use Rattle.rule.proofs.Order.{Halfway, halfway}
 use Rattle.laws.proofs.Truth.{not-so}
 
 -- Station v stands before position t of the order.

@@ -9,11 +9,11 @@ use native.Mathlib.Omega.{arith}
 use lib.ListN.{length, getD}
 use Rattle.network.specs.Lines.{network, Simple}
 use Rattle.network.specs.Orders.{EachOnce}
-use Rattle.scan.specs.Rule.{oneRound}
-use Rattle.scan.proofs.Order.{round-each-once}
-use Rattle.scan.proofs.Takes.{Leads}
-use Rattle.scan.proofs.Stages.{Earlier, Stage, after, after-all, after-stage}
-use Rattle.scan.proofs.Reached.{Neighbour, TakenAt, Why, Why.by-start, Why.by-scan, Why.by-line, Reached, two-ways, start-first, reached}
+use Rattle.rule.specs.Rule.{oneRound}
+use Rattle.rule.proofs.Order.{round-each-once}
+use Rattle.rule.proofs.Takes.{Leads}
+use Rattle.rule.proofs.Stages.{Earlier, Stage, after, after-all, after-stage}
+use Rattle.rule.proofs.Reached.{Neighbour, TakenAt, Why, Why.by-start, Why.by-scan, Why.by-line, Reached, two-ways, start-first, reached}
 
 -- What a round makes of the lines in play, by positions in its order.
 pub record ScanFirst (n : ℕ) (lines before after order : List ℕ) (round : ℕ) : Type 0 where

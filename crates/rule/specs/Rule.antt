@@ -1,9 +1,8 @@
 -- One round of the scan rule, in the document's words. A line is in play while its rank is 0.
 -- Assumes nothing.
-use Prim.Native.Nat.{ℕ, _*_, _/_, _<_, _≤_}
+use Prim.Native.Nat.{ℕ, _/_}
 use mathlib.Core.List.{List, [], _∷_, _++_}
 use mathlib.Core.Bool.{Bool, true, false, not}
-use mathlib.Core.Path.{_≡_}
 use lib.ListN.{length, getD, set, replicate}
 use lib.Dec.{eqb}
 use Rattle.laws.specs.Fold.{pick, upTo, anyFrom, lowest}
@@ -78,17 +77,3 @@ allScanned n lines round s = upTo (λ i. scanNext n lines round) s n
 -- One round, from its starting station.
 unfoldable pub oneRound : ℕ → List ℕ → ℕ → ℕ → List ℕ → Scanning
 oneRound n lines round start ranks = allScanned n lines round (roundStart n start ranks)
-
--- What a round's helpers ask of their arguments: every end is a station, there are few lines, and each has its rank.
-pub record Laid (n : ℕ) (lines ranks : List ℕ) : Type 0 where
-  pub one-in : (p : ℕ) → p < length ranks → endOne lines p < n
-  pub two-in : (p : ℕ) → p < length ranks → endTwo lines p < n
-  pub few : length lines ≤ 16384
-  pub pairs : length lines ≡ 2 * length ranks
-
--- There are stations, at most 1,024, and each has its two marks.
-pub record Room (n : ℕ) (marked scanned : List Bool) : Type 0 where
-  pub some : 0 < n
-  pub most : n ≤ 1024
-  pub marks-room : length marked ≡ n
-  pub scans-room : length scanned ≡ n

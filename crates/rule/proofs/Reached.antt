@@ -14,11 +14,11 @@ use lib.Seq.{getD-set-same, getD-set-other}
 use Rattle.laws.proofs.Lists.{replicate-at}
 use Rattle.network.specs.Lines.{Network, network, Joins, Joins.forth, Joins.back, Simple}
 use Rattle.network.specs.Orders.{EachOnce}
-use Rattle.scan.specs.Rule.{Marks, marks, Scanning, scanStation, scanAs, roundStart, oneRound}
-use Rattle.scan.proofs.Marks.{stored}
-use Rattle.scan.proofs.Order.{round-each-once}
-use Rattle.scan.proofs.Takes.{Leads, leads-turn, Taken, Led, Takes, scan-takes}
-use Rattle.scan.proofs.Stages.{Earlier, Stage, after, after-none, after-more, after-stage}
+use Rattle.rule.specs.Rule.{Marks, marks, Scanning, scanStation, scanAs, roundStart, oneRound}
+use Rattle.rule.proofs.Marks.{stored}
+use Rattle.rule.proofs.Order.{round-each-once}
+use Rattle.rule.proofs.Takes.{Leads, leads-turn, Taken, Led, Takes, scan-takes}
+use Rattle.rule.proofs.Stages.{Earlier, Stage, after, after-none, after-more, after-stage}
 use Rattle.network.proofs.Chains.{joins-back}
 use Rattle.laws.proofs.Truth.{not-so}
 

@@ -1,0 +1,1 @@
+// The scan rule and its laws: definitions and theorems alone.
