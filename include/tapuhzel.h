@@ -8,6 +8,12 @@
  * among them:
  *   *place  the refusal's place: a line's place, a round, an index or an offset, else 0; 0 where it is not refused
  *   *list   which line list a refusal 2, 6, 7 or 8 of a union speaks of, 1 or 2; 3 for the records of a file; else 0
+ *
+ * A call takes no memory but its stack. In bytes, for up to 64 stations and 256 lines, and for every network, as
+ * measured (bench/stack.c; docs/SPEED.md has the table):
+ *   judge 5,367 and 66,759    prune 5,719 and 67,111    check 13,751 and 75,143    copy 111    unite 6,503 and 67,895
+ *   joined 8,535 and 69,927   weak 12,671 and 70,855    write 5,447 and 66,839     read 279
+ *   keep_text 9,415 and 111,959                         weak_text 14,223 and 113,559
  */
 #ifndef TAPUHZEL_H
 #define TAPUHZEL_H

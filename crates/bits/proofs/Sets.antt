@@ -1,8 +1,8 @@
--- The laws of sets of bits: what is in a set after one number was put in, and that nothing is in words of 0.
+-- The laws of sets of bits: what is in a set after one number was put in, that nothing is in words of 0, and the same of the definitions' set.
 -- Assumes nothing.
 use Prim.Native.Nat.{ℕ, zero, suc, _+_, _-_, _/_, _%_, _^_, _<_}
 use mathlib.Core.Path.{_≡_, refl, sym, ap, _∙_}
-use mathlib.Core.Bool.{false, _||_}
+use mathlib.Core.Bool.{true, false, _||_}
 use mathlib.Core.List.{List}
 use mathlib.Core.Logic.{_≢_}
 use native.Mathlib.Nat.{zero-div, div-self, div-eq-of-lt, pow-suc}
@@ -12,10 +12,11 @@ use borrow.Author.Tests.{eq-eqb, ne-eqb}
 use lib.Dec.{eqb}
 use lib.Pow.{pow-pos, pow-lt, pow-add, shl-shr}
 use lib.Bits.{bitOr, or-shr, or-mod, or-zero-r}
-use lib.ListN.{length, getD, set, replicate, length-set}
+use lib.ListN.{length, getD, set, replicate, length-set, length-replicate}
 use lib.Seq.{getD-set-same, getD-set-other}
 use Rattle.laws.proofs.Lists.{replicate-at}
-use Rattle.bits.specs.Sets.{isIn, putIn}
+use Rattle.laws.proofs.Tables.{at-tabulate, is-tabulate, tabulate-set}
+use Rattle.bits.specs.Sets.{isIn, putIn, members}
 
 -- Bit j of a word with only bit b.
 mask-same : (b : ℕ) → 2 ^ b / 2 ^ b % 2 ≡ 1
@@ -71,3 +72,24 @@ length-put words x = simp length-set
 pub in-none : (n x : ℕ) → isIn (replicate n 0) x ≡ false
 unfolding isIn
 in-none n x = rw (replicate-at {A = ℕ} n (x / 64) 0, zero-div (2 ^ (x % 64)))
+
+-- The definitions' set: what it says of a number, that it is empty where all words are 0, and that it has a number that was put in.
+pub members-at : (n : ℕ) (words : List ℕ) (v : ℕ) → v < n → getD (members n words) v false ≡ isIn words v
+unfolding members
+members-at n words v h = at-tabulate n (isIn words) v false h
+
+pub members-none : (n count : ℕ) → members n (replicate count 0) ≡ replicate n false
+unfolding members
+members-none n count =
+    sym (is-tabulate (replicate n false) n (isIn (replicate count 0)) false (length-replicate n false) (λ v h. replicate-at n v false ∙ sym (in-none count v)))
+
+pub members-put : (n : ℕ) (words : List ℕ) (v : ℕ) → v < n → v / 64 < length words → members n (putIn words v) ≡ set (members n words) v true
+unfolding members
+members-put n words v h room =
+    sym (rw here at (tabulate-set n (isIn words) (isIn (putIn words v)) v h other))
+  where
+    here : isIn (putIn words v) v ≡ true
+    here = in-put words v v room ∙ rw (eq-eqb v v refl)
+
+    other : (w : ℕ) → w ≢ v → isIn (putIn words v) w ≡ isIn words w
+    other w m = in-put words v w room ∙ rw (ne-eqb v w (λ (e : v ≡ w). m (sym e)))

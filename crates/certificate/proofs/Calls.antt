@@ -22,11 +22,11 @@ use Rattle.kept.specs.declared.Copied.the-variants.{Lines as CopiedLines}
 use Rattle.kept.proofs.After.{front-written}
 use Rattle.kept.proofs.Copying.{kept-length, count-front, kept-front, copy-given}
 use Rattle.kept.proofs.Determined.{copied-determined}
-use Rattle.prune.specs.Pruning.{pruned}
+use Rattle.rule.specs.Rounds.{pruned}
 use Rattle.prune.specs.Answers.{PruneAllows}
 use Rattle.prune.specs.declared.Pruned.{Pruned}
 use Rattle.prune.specs.declared.Pruned.the-variants.{Kept}
-use Rattle.prune.proofs.Plans.{pruned-size, pruned-filled}
+use Rattle.rule.proofs.Plans.{pruned-size, pruned-filled}
 use Rattle.prune.proofs.Answers.{given-request, request-given}
 use Rattle.prune.proofs.Determined.{pruned-determined}
 use Rattle.unite.specs.Union.{united}

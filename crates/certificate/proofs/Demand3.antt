@@ -12,7 +12,7 @@ use Rattle.plans.specs.Verdicts.{Verdict.accepted}
 use Rattle.plans.specs.Checking.{checkAnswer}
 use Rattle.plans.proofs.Answers.{check-accepts}
 use Rattle.kept.specs.Kept.{keptLines}
-use Rattle.prune.specs.Pruning.{pruned}
+use Rattle.rule.specs.Rounds.{pruned}
 use Rattle.unite.specs.Union.{united}
 use Rattle.unite.proofs.Neighbours.{united-sound, united-fewer}
 use Rattle.certificate.specs.Alike.{Alike}

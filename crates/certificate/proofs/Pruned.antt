@@ -19,9 +19,9 @@ use Rattle.plans.specs.Faults.{Beside, Tied, Earliest, StationGood}
 use Rattle.plans.proofs.Hops.{firstBeside, Searched, searched}
 use Rattle.plans.proofs.Orders.{order-position, position-below, position-one}
 use Rattle.plans.proofs.Greedy.{RoundGood, good-meets}
-use Rattle.prune.specs.Pruning.{pruned}
-use Rattle.prune.proofs.Plans.{pruned-ranks, pruned-orders}
-use Rattle.prune.proofs.RoundsFirst.{RoundLeads, RoundNeighbour, RoundFirst, pruned-first}
+use Rattle.rule.specs.Rounds.{pruned}
+use Rattle.rule.proofs.Plans.{pruned-ranks, pruned-orders}
+use Rattle.rule.proofs.RoundsFirst.{RoundLeads, RoundNeighbour, RoundFirst, pruned-first}
 use Rattle.certificate.specs.Starts.{StartsIn}
 
 module _ {n : ℕ} {lines ranks order : List ℕ} {i : ℕ} (F : RoundFirst n lines ranks order i) where

@@ -4,7 +4,7 @@ use Prim.Native.Nat.{ℕ, _<_}
 use mathlib.Core.List.{List}
 use lib.ListN.{getD}
 use Rattle.kept.specs.Kept.{keptLines}
-use Rattle.prune.specs.Pruning.{pruned}
+use Rattle.rule.specs.Rounds.{pruned}
 use Rattle.unite.specs.Union.{united}
 
 -- The starting stations of k rounds are stations.

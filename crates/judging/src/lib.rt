@@ -1,4 +1,6 @@
 // The judge of a network: refusals 1 and 2, then each line in list order for 6, 7 and 8.
+use earlier::find_few;
+use earlier::find_many;
 use kinds::Judged;
 use kinds::LineList;
 use kinds::Place;
@@ -9,77 +11,59 @@ use limits::judge_length;
 use limits::judge_stations;
 use network::judge_ends;
 use network::line_at;
-use network::pair_number;
 ghost use mathlib.Core.Path.{_≡_};
-ghost use mathlib.Core.Bool.{false};
-ghost use Prim.Native.Nat.{_+_, _/_, _<_, _≤_};
+ghost use Prim.Native.Nat.{_≤_};
 ghost use lib.ListN.{length};
-ghost use Rattle.kinds.specs.Answers.{isRefused, judgedAnswer};
+ghost use Rattle.kinds.specs.Answers.{judgedAnswer};
 ghost use Rattle.kinds.specs.Refusals.{listNumber};
-ghost use Rattle.network.specs.Judging.{lineJudged, linesJudged, listJudged};
-ghost use Rattle.network.specs.Pairs.{Remembers};
+ghost use Rattle.network.specs.Judging.{linesJudged, listJudged};
+ghost use Rattle.judging.specs.Ends.{goodEnds, Marks};
 
-// The line at a place: refusals 6, 7 and 8. `pairs` remembers the lines before it, and then this one too.
-fn judge_line(list: LineList, n: usize, lines: &[u16], place: Place, pairs: &mut [u64]) -> Judged
-    requires { ⌜ (n ≤ 1024) × Remembers n (now pairs) (now lines) (place .0) × (place .0 < length (now lines) / 2) ⌝ }
-    ensures answer { λ r. ⌜ judgedAnswer r ≡ lineJudged (listNumber list) n (now (lines .entry)) (place .0) ⌝ }
-    ensures remembers { λ r. ⌜ (isRefused (judgedAnswer r) ≡ false → Remembers n (now (pairs .exit)) (now (lines .entry)) (place .0 + 1)) ⌝ }
-{
-    let line = line_at(lines, place);
-    let ends = judge_ends(list, n, line, place);
-    if is_refused(ends) {
-        return ends;
-    }
-    let number = pair_number(line);
-    if bits::is_in(pairs, number) {
-        return Judged::Refused(Refusal::StoodEarlier(list, place));
-    }
-    bits::put_in(pairs, number);
-    Judged::Taken
-}
-
-// Each line in list order, with a set of pairs that remembers none yet.
-fn judge_each(list: LineList, n: usize, lines: &[u16], pairs: &mut [u64]) -> Judged
-    requires { ⌜ (n ≤ 1024) × (length (now lines) ≤ 16384) × Remembers n (now pairs) (now lines) 0 ⌝ }
-    ensures answer { λ r. ⌜ judgedAnswer r ≡ linesJudged (listNumber list) n (now (lines .entry)) ⌝ }
+// How many lines stand before the first whose ends 6 or 7 refuses; all of them where there is none.
+fn good_ends(list: LineList, n: usize, lines: &[u16]) -> usize
+    requires { ⌜ length (now lines) ≤ 16384 ⌝ }
+    ensures count { λ r. ⌜ r ≡ goodEnds (listNumber list) n (now (lines .entry)) ⌝ }
 {
     let count = lines.len() / 2;
     for p in 0..count {
-        let judged = judge_line(list, n, lines, Place(p as u16), pairs);
-        if is_refused(judged) {
-            return judged;
+        let place = Place(p as u16);
+        if is_refused(judge_ends(list, n, line_at(lines, place), place)) {
+            return p;
         }
+    }
+    count
+}
+
+// Each line in list order: `until` lines at the front have good ends, and `again` has the places of those of them that stood earlier.
+fn judge_marked(list: LineList, n: usize, lines: &[u16], until: usize, again: &[u64]) -> Judged
+    requires { ⌜ (length (now lines) ≤ 16384) × (until ≡ goodEnds (listNumber list) n (now lines)) × Marks until (now lines) (now again) × (length (now again) ≡ 128) ⌝ }
+    ensures answer { λ r. ⌜ judgedAnswer r ≡ linesJudged (listNumber list) n (now (lines .entry)) ⌝ }
+{
+    let words = (until + 63) / 64;
+    let first = bits::lowest_in(&again[..words]);
+    if first < until {
+        return Judged::Refused(Refusal::StoodEarlier(list, Place(first as u16)));
+    }
+    if until < lines.len() / 2 {
+        let place = Place(until as u16);
+        return judge_ends(list, n, line_at(lines, place), place);
     }
     Judged::Taken
 }
 
-// Each line in list order, of up to 256 stations, with a bit for each pair of them.
-fn judge_few(list: LineList, n: usize, lines: &[u16]) -> Judged
-    requires { ⌜ (n ≤ 256) × (length (now lines) ≤ 16384) ⌝ }
-    ensures answer { λ r. ⌜ judgedAnswer r ≡ linesJudged (listNumber list) n (now (lines .entry)) ⌝ }
-{
-    let mut pairs = [0u64; 510];
-    judge_each(list, n, lines, &mut pairs)
-}
-
-// Each line in list order, of up to 1,024 stations, with a bit for each pair of them.
-fn judge_many(list: LineList, n: usize, lines: &[u16]) -> Judged
-    requires { ⌜ (n ≤ 1024) × (length (now lines) ≤ 16384) ⌝ }
-    ensures answer { λ r. ⌜ judgedAnswer r ≡ linesJudged (listNumber list) n (now (lines .entry)) ⌝ }
-{
-    let mut pairs = [0u64; 8184];
-    judge_each(list, n, lines, &mut pairs)
-}
-
-// Each line in list order: refusals 6, 7 and 8. A bit for each pair makes the time linear in the lines; few stations need few bits cleared.
+// Each line in list order: refusals 6, 7 and 8. Few stations need few bits cleared to find the lines that stood earlier.
 fn judge_lines(list: LineList, n: usize, lines: &[u16]) -> Judged
     requires { ⌜ (n ≤ 1024) × (length (now lines) ≤ 16384) ⌝ }
     ensures answer { λ r. ⌜ judgedAnswer r ≡ linesJudged (listNumber list) n (now (lines .entry)) ⌝ }
 {
+    let until = good_ends(list, n, lines);
+    let mut again = [0u64; 128];
     if n <= 256 {
-        return judge_few(list, n, lines);
+        find_few(&lines[..0], &lines[..2 * until], &mut again);
+    } else {
+        find_many(&lines[..0], &lines[..2 * until], &mut again);
     }
-    judge_many(list, n, lines)
+    judge_marked(list, n, lines, until, &again)
 }
 
 // The judge of one of several lists: refusal 1, then 2, then each line in list order for 6, 7 and 8.

@@ -122,11 +122,11 @@ module _ {A : Type 0} (test : A → Bool) (f : ℕ → A) (last : A) where
       go (inl r) = same r (decLt (r .place) p) (decLt p (r .place))
       go (inr r) = absurd (true≢false (sym e ∙ r .none p (omega arith) (omega arith)))
 
--- The lowest number that passes is below the bound, if the number given where none passes is.
-pub lowest-below : (test : ℕ → Bool) (n last : ℕ) → last < n → lowest test n last < n
-lowest-below test n last h = go (first-cases test (λ i. i) last 0 n)
+-- The lowest number that passes is at most the bound, which is given where none passes.
+pub lowest-most : (test : ℕ → Bool) (n : ℕ) → lowest test n n ≤ n
+lowest-most test n = go (first-cases test (λ i. i) n 0 n)
   where
-    go : FoundAt test (λ i. i) 0 n (lowest test n last) ⊎ FoundNone test (λ i. i) last 0 n (lowest test n last) → lowest test n last < n
+    go : FoundAt test (λ i. i) 0 n (lowest test n n) ⊎ FoundNone test (λ i. i) n 0 n (lowest test n n) → lowest test n n ≤ n
     go (inl r) = omega (arith, r .is, r .below)
     go (inr r) = omega (arith, r .is)
 
@@ -198,13 +198,29 @@ first-same test f f′ last k i h = first-agree test test f f′ last k i (λ j 
 pub lowest-same : (test test′ : ℕ → Bool) (n last : ℕ) → ((j : ℕ) → j < n → test j ≡ test′ j) → lowest test n last ≡ lowest test′ n last
 lowest-same test test′ n last h = first-agree test test′ (λ i. i) (λ i. i) last n 0 (λ j a b. (h j (omega arith), refl))
 
+-- A search of many numbers, of which the first n are asked for.
+module _ (test : ℕ → Bool) (many n : ℕ) (few : n ≤ many) where
+  -- an answer below n passes, and is the lowest of the n
+  pub lowest-low : lowest test many many < n → (test (lowest test many many) ≡ true) × ((last : ℕ) → lowest test n last ≡ lowest test many many)
+  lowest-low h = go (first-cases test (λ i. i) many 0 many)
+    where
+      go : FoundAt test (λ i. i) 0 many (lowest test many many) ⊎ FoundNone test (λ i. i) many 0 many (lowest test many many)
+          → (test (lowest test many many) ≡ true) × ((last : ℕ) → lowest test n last ≡ lowest test many many)
+      go (inl r) =
+          (rw (r .is) (r .passes), λ last. first-at test (λ i. i) last n (r .place) (omega (arith, r .is)) (r .passes) (λ j l. r .earlier j (omega arith) l) ∙ sym (r .is))
+      go (inr r) = absurd (omega (arith, r .is))
+
+  -- an answer from n on: none of the n passes
+  pub lowest-high : n ≤ lowest test many many → (v : ℕ) → v < n → test v ≡ false
+  lowest-high h v l = go (first-cases test (λ i. i) many 0 many)
+    where
+      go : FoundAt test (λ i. i) 0 many (lowest test many many) ⊎ FoundNone test (λ i. i) many 0 many (lowest test many many) → test v ≡ false
+      go (inl r) = r .earlier v (omega arith) (omega (arith, r .is))
+      go (inr r) = r .none v (omega arith) (omega arith)
+
 -- Where the search finds no number below n, none passes.
 pub lowest-none : (test : ℕ → Bool) (n : ℕ) → n ≤ lowest test n n → (v : ℕ) → v < n → test v ≡ false
-lowest-none test n h v l = go (first-cases test (λ i. i) n 0 n)
-  where
-    go : FoundAt test (λ i. i) 0 n (lowest test n n) ⊎ FoundNone test (λ i. i) n 0 n (lowest test n n) → test v ≡ false
-    go (inl r) = absurd (omega (arith, r .is, r .below))
-    go (inr r) = r .none v (omega arith) (omega arith)
+lowest-none test n h = lowest-high test n n (omega arith) h
 
 -- The search for the lowest number, with one number more that passes, or that does not.
 pub lowest-new : (test : ℕ → Bool) (k last : ℕ) → ((j : ℕ) → j < k → test j ≡ false) → test k ≡ true → lowest test (k + 1) last ≡ k

@@ -4,3 +4,4 @@ pub mod Count
 pub mod Decide
 pub mod Lists
 pub mod Injections
+pub mod Tables

@@ -1,4 +1,3 @@
-pub mod Pairs
 pub mod Ends
 pub mod Judging
 pub mod Sound

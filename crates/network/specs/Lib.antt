@@ -3,5 +3,4 @@ pub mod Chains
 pub mod Judging
 pub mod Orders
 pub mod Faults
-pub mod Pairs
 pub mod Rows

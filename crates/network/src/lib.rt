@@ -1,4 +1,4 @@
-// The line list of a network: a line and its rank, the judge of its ends, and the number of the pair that it joins.
+// The line list of a network: a line and its rank, and the judge of its ends.
 use kinds::Judged;
 use kinds::LineList;
 use kinds::Place;
@@ -6,14 +6,12 @@ use kinds::Refusal;
 use kinds::Round;
 use kinds::Station;
 ghost use mathlib.Core.Path.{_≡_};
-ghost use mathlib.Core.Logic.{_≢_};
 ghost use Prim.Native.Nat.{_/_, _<_};
 ghost use lib.ListN.{length, getD};
 ghost use Rattle.kinds.specs.Answers.{judgedAnswer};
 ghost use Rattle.kinds.specs.Refusals.{listNumber};
 ghost use Rattle.network.specs.Lines.{endOne, endTwo};
 ghost use Rattle.network.specs.Judging.{endsJudged};
-ghost use Rattle.network.specs.Pairs.{pairAt, pairNumber};
 
 // A line: its two ends, as written.
 pub struct Line {
@@ -60,26 +58,4 @@ pub fn judge_ends(list: LineList, n: usize, line: Line, place: Place) -> Judged
         return Judged::Refused(Refusal::EndsEqual(list, place));
     }
     Judged::Taken
-}
-
-// The number of a pair of stations, given the lower one and the higher one.
-fn pair_at(low: Station, high: Station) -> usize
-    requires { ⌜ (low .0 < high .0) × (high .0 < 1024) ⌝ }
-    ensures number { λ r. ⌜ r ≡ pairAt (low .0) (high .0) ⌝ }
-{
-    let h = high.0 as usize;
-    h * (h - 1) / 2 + low.0 as usize
-}
-
-// The number of the pair that a line joins, the same either way round.
-pub fn pair_number(line: Line) -> usize
-    requires { ⌜ (line .one .0 < 1024) × (line .two .0 < 1024) × (line .one .0 ≢ line .two .0) ⌝ }
-    ensures number { λ r. ⌜ r ≡ pairNumber (line .one .0) (line .two .0) ⌝ }
-{
-    let one = line.one;
-    let two = line.two;
-    if one.0 < two.0 {
-        return pair_at(one, two);
-    }
-    pair_at(two, one)
 }

@@ -3,7 +3,8 @@
 use Prim.Native.Nat.{ℕ}
 use mathlib.Core.List.{List}
 use Rattle.kinds.specs.Answers.{Answer, Answer.given, Answer.refused}
-use Rattle.prune.specs.Pruning.{pruned, pruneAnswer}
+use Rattle.prune.specs.Pruning.{pruneAnswer}
+use Rattle.rule.specs.Rounds.{pruned}
 use Rattle.reading.specs.Reading.{Facts, fileRead, lineNumbers, startNumbers}
 use Rattle.report.specs.Text.{keepText, refusedText}
 

@@ -1,3 +1,4 @@
 pub mod Keep
 pub mod Weak
 pub mod Texts
+pub mod Programs

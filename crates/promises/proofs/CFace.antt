@@ -17,7 +17,8 @@ use Rattle.network.proofs.Rows.{list-follows}
 use Rattle.kept.specs.Kept.{after}
 use Rattle.kept.proofs.Rows.{copy-follows}
 use Rattle.request.specs.Rows.{requestRows}
-use Rattle.prune.specs.Pruning.{pruned, pruneAnswer}
+use Rattle.prune.specs.Pruning.{pruneAnswer}
+use Rattle.rule.specs.Rounds.{pruned}
 use Rattle.prune.specs.Answers.{PruneAllows}
 use Rattle.prune.specs.declared.Pruned.the-variants.{Kept}
 use Rattle.prune.proofs.Rows.{prune-follows}

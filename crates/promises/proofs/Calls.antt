@@ -22,10 +22,10 @@ use Rattle.laws.proofs.Fold.{upTo-more}
 use Rattle.kept.specs.Kept.{keptOf, after}
 use Rattle.kept.proofs.After.{front-written, later-written}
 use Rattle.kept.proofs.Copying.{count-front}
-use Rattle.prune.specs.Pruning.{Rounds, rounds, nextRound, allRounds, pruned}
+use Rattle.rule.specs.Rounds.{Rounds, rounds, nextRound, allRounds, pruned}
 use Rattle.prune.specs.Answers.{PruneAllows}
 use Rattle.prune.specs.declared.Pruned.the-variants.{Kept}
-use Rattle.prune.proofs.Plans.{part-is, pruned-size, pruned-ranks, pruned-filled, pruned-orders}
+use Rattle.rule.proofs.Plans.{part-is, pruned-size, pruned-ranks, pruned-filled, pruned-orders}
 use Rattle.prune.proofs.Answers.{given-request}
 use Rattle.plans.specs.Verdicts.{Kind, Verdict.faulty}
 use Rattle.plans.specs.Plans.{PlanMeets}

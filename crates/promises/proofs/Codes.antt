@@ -7,7 +7,8 @@ use Rattle.network.specs.Judging.{sameEnds, endsJudged, lineJudged, linesJudged
 use Rattle.request.specs.Judging.{startCountJudged, startJudged, startsJudged, sizesJudged, requestJudged}
 use Rattle.rule.specs.Rule.{takeTo, takeLine, scanStation, ready, fresh, nextStation, scanAs, scanNext, allScanned, oneRound}
 use Rattle.kept.specs.Kept.{keptCount, copyLine, keptLines, keptOf, copyAnswer, after}
-use Rattle.prune.specs.Pruning.{nextRound, allRounds, pruned, pruneAnswer}
+use Rattle.prune.specs.Pruning.{pruneAnswer}
+use Rattle.rule.specs.Rounds.{nextRound, allRounds, pruned}
 use Rattle.plans.specs.Orders.{orderOf, positionOf}
 use Rattle.plans.specs.Checking.{inPlay, ofRank, linked, rankVerdict, ranksVerdict, entryVerdict, orderVerdict, earliest, hasParent, hasOther, parentVerdict, otherVerdict, stationVerdict, stationsVerdict, addTree, treesOf, lineVerdict, linesVerdict, roundVerdict, roundsVerdict, planVerdict, planJudged, checkAnswer}
 use Rattle.pieces.specs.Away.{isAway}

@@ -11,7 +11,8 @@ use Rattle.network.specs.Judging.{sameEnds, endsJudged, lineJudged, linesJudged
 use Rattle.request.specs.Judging.{startCountJudged, startJudged, startsJudged, sizesJudged, requestJudged}
 use Rattle.rule.specs.Rule.{takeTo, takeLine, scanStation, ready, fresh, nextStation, scanAs, scanNext, allScanned, oneRound}
 use Rattle.kept.specs.Kept.{keptCount}
-use Rattle.prune.specs.Pruning.{nextRound, allRounds, pruned, pruneAnswer}
+use Rattle.prune.specs.Pruning.{pruneAnswer}
+use Rattle.rule.specs.Rounds.{nextRound, allRounds, pruned}
 use Rattle.request.specs.Requests.{Request}
 use Rattle.request.proofs.Judging.{request-good}
 use Rattle.writing.specs.Writing.{fileBytes}

@@ -12,7 +12,7 @@ use Rattle.network.specs.Judging.{listJudged}
 use Rattle.network.specs.Orders.{EachOnce}
 use Rattle.rule.specs.Rule.{oneRound}
 use Rattle.kept.specs.Kept.{keptOf}
-use Rattle.prune.specs.Pruning.{pruned}
+use Rattle.rule.specs.Rounds.{pruned}
 use Rattle.plans.specs.Orders.{orderOf}
 use Rattle.plans.specs.Checking.{checkAnswer}
 use Rattle.forests.specs.Answers.{checkedAnswer}

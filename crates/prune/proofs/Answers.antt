@@ -10,7 +10,8 @@ use Rattle.request.specs.Judging.{requestJudged}
 use Rattle.request.specs.Requests.{Request}
 use Rattle.request.proofs.Judging.{request-good, good-request}
 use Rattle.kept.specs.Kept.{keptCount}
-use Rattle.prune.specs.Pruning.{pruned, pruneAnswer}
+use Rattle.prune.specs.Pruning.{pruneAnswer}
+use Rattle.rule.specs.Rounds.{pruned}
 
 module _ (n k : ℕ) (lines starts : List ℕ) (ranks orders : ℕ) where
   pub given-request : {count : ℕ} → pruneAnswer n k lines starts ranks orders ≡ given count

@@ -7,7 +7,8 @@ use Rattle.kinds.proofs.Rows.{given-follows}
 use Rattle.kept.specs.Kept.{keptCount}
 use Rattle.limits.proofs.Rows.{plan-short-exactly}
 use Rattle.request.proofs.Rows.{request-follows}
-use Rattle.prune.specs.Pruning.{pruned, pruneAnswer}
+use Rattle.prune.specs.Pruning.{pruneAnswer}
+use Rattle.rule.specs.Rounds.{pruned}
 use Rattle.prune.specs.Rows.{pruneRows}
 
 pub prune-follows : (n k : ℕ) (lines starts : List ℕ) (ranks orders : ℕ) → Follows (pruneAnswer n k lines starts ranks orders) (pruneRows n k lines starts ranks orders)

@@ -6,7 +6,8 @@ use mathlib.Core.List.{List}
 use lib.ListN.{length}
 use Rattle.kinds.specs.Answers.{Answer, Answer.given, refusalAnswer}
 use Rattle.kept.specs.Kept.{after}
-use Rattle.prune.specs.Pruning.{pruned, pruneAnswer}
+use Rattle.prune.specs.Pruning.{pruneAnswer}
+use Rattle.rule.specs.Rounds.{pruned}
 use Rattle.prune.specs.declared.Pruned.{Pruned}
 use Rattle.prune.specs.declared.Pruned.the-variants.{Kept, Refused}
 

@@ -1,4 +1,3 @@
 pub mod Pruning
 pub mod Answers
-pub mod Sizes
 pub mod Rows

@@ -1,36 +1,12 @@
--- Pruning: k rounds of the scan rule, what is kept, and what is left in the lent buffers.
+-- Pruning: what it answers. What the rounds make, and what is so left in the lent buffers, is the scan rule's.
 -- Assumes nothing.
-use Prim.Native.Nat.{ℕ, _+_, _/_}
-use mathlib.Core.List.{List, [], _++_}
-use lib.ListN.{length, getD, replicate}
-use Rattle.laws.specs.Fold.{upTo}
+use Prim.Native.Nat.{ℕ}
+use mathlib.Core.List.{List}
 use Rattle.kinds.specs.Answers.{Answer, Answer.given, _andThen_}
 use Rattle.kept.specs.Kept.{keptCount}
 use Rattle.limits.specs.Limits.{planShort}
 use Rattle.request.specs.Judging.{requestJudged}
-use Rattle.rule.specs.Rule.{oneRound}
-
--- What the rounds make: the lines' ranks, and the rounds' orders, n places to a round.
-pub record Rounds : Type 0 where
-  pub ranks : List ℕ
-  pub orders : List ℕ
-
-abbrev pub rounds : List ℕ → List ℕ → Rounds
-rounds ranks orders = record { ranks = ranks; orders = orders }
-
--- The round after i others, which is round i + 1: its order fills the n places that begin at i times n.
-unfoldable pub nextRound : ℕ → List ℕ → List ℕ → ℕ → Rounds → Rounds
-nextRound n lines starts i s =
-    let round = oneRound n lines (i + 1) (getD starts i 0) (s .ranks) in
-    rounds (round .ranks) (s .orders ++ round .order)
-
--- The first k rounds, from ranks.
-unfoldable pub allRounds : ℕ → ℕ → List ℕ → List ℕ → List ℕ → Rounds
-allRounds n k lines starts ranks = upTo (nextRound n lines starts) (rounds ranks []) k
-
--- The ranks and the orders of a network pruned at level k: every line is in play at first.
-unfoldable pub pruned : ℕ → ℕ → List ℕ → List ℕ → Rounds
-pruned n k lines starts = allRounds n k lines starts (replicate (length lines / 2) 0)
+use Rattle.rule.specs.Rounds.{pruned}
 
 -- What pruning answers, given the lengths of the two buffers: the first refusal, or the count of kept lines.
 unfoldable pub pruneAnswer : ℕ → ℕ → List ℕ → List ℕ → (ranks orders : ℕ) → Answer ℕ

@@ -3,34 +3,23 @@ use kept::count_kept;
 use kinds::Judged;
 use kinds::Level;
 use kinds::Refusal;
-use kinds::Round;
-use kinds::Station;
 use limits::is_plan_short;
+use ranks::clear;
+use ranks::one_round;
 use request::judge_request;
-use scan::scan_round;
 ghost use mathlib.Core.Path.{_≡_};
-ghost use Prim.Native.Nat.{_*_, _/_, _≤_, _<_};
-ghost use lib.ListN.{length, replicate};
+ghost use Prim.Native.Nat.{_*_, _≤_, _<_};
+ghost use lib.ListN.{length};
 ghost use Rattle.kept.specs.Kept.{keptCount};
 ghost use Rattle.scan.specs.Asked.{Laid, Room};
 ghost use Rattle.prune.specs.Answers.{PruneAllows};
-ghost use Rattle.prune.specs.Pruning.{rounds, allRounds, pruned};
-ghost use Rattle.prune.specs.Sizes.{InOrder};
+ghost use Rattle.rule.specs.Rounds.{rounds, allRounds, pruned};
+ghost use Rattle.ranks.specs.Sizes.{InOrder};
 
 // What pruning says: how many lines are kept, or why the input is refused.
 pub enum Pruned {
     Kept(usize),
     Refused(Refusal),
-}
-
-// Every line is in play.
-fn clear(ranks: &mut [u8])
-    ensures cleared { λ _. ⌜ now (ranks .exit) ≡ replicate (length (now (ranks .entry))) 0 ⌝ }
-{
-    let count = ranks.len();
-    for p in 0..count {
-        ranks[p] = 0;
-    }
 }
 
 // The rounds 1 to k. Round i is lent its part of the orders, the n places that begin at (i - 1) times n.
@@ -41,23 +30,21 @@ fn all_rounds(
     starts: &[u16],
     ranks: &mut [u8],
     orders: &mut [u16],
-    marked: &mut [bool],
-    scanned: &mut [bool],
+    marked: &mut [u64],
+    scanned: &mut [u64],
 )
-    requires { ⌜ Laid n (now lines) (now ranks) × Room n (now marked) (now scanned) × InOrder n (level .0) (now starts) (now orders) ⌝ }
+    requires { ⌜ Laid n (now lines) (now ranks) × Room n (now marked) (now scanned) × InOrder n (level .0) (now starts) × (length (now orders) ≡ level .0 * n) ⌝ }
     ensures rounds { λ _. ⌜ rounds (now (ranks .exit)) (now (orders .exit)) ≡ allRounds n (level .0) (now (lines .entry)) (now (starts .entry)) (now (ranks .entry)) ⌝ }
 {
     let k = level.0;
     let mut at = 0;
     for i in 0..k {
         let end = at + n;
-        let start = Station(starts[i]);
-        let round = Round((i + 1) as u8);
-        scan_round(
-            round,
-            start,
+        one_round(
+            i,
             n,
             lines,
+            starts,
             ranks,
             &mut orders[at..end],
             marked,
@@ -75,10 +62,10 @@ fn run_rounds(
     starts: &[u16],
     ranks: &mut [u8],
     orders: &mut [u16],
-    marked: &mut [bool],
-    scanned: &mut [bool],
+    marked: &mut [u64],
+    scanned: &mut [u64],
 ) -> usize
-    requires { ⌜ Laid n (now lines) (now ranks) × Room n (now marked) (now scanned) × InOrder n (level .0) (now starts) (now orders) ⌝ }
+    requires { ⌜ Laid n (now lines) (now ranks) × Room n (now marked) (now scanned) × InOrder n (level .0) (now starts) × (length (now orders) ≡ level .0 * n) ⌝ }
     ensures rounds { λ _. ⌜ rounds (now (ranks .exit)) (now (orders .exit)) ≡ pruned n (level .0) (now (lines .entry)) (now (starts .entry)) ⌝ }
     ensures count { λ r. ⌜ r ≡ keptCount (pruned n (level .0) (now (lines .entry)) (now (starts .entry)) .ranks) ⌝ }
 {
@@ -96,12 +83,12 @@ fn run(
     ranks: &mut [u8],
     orders: &mut [u16],
 ) -> usize
-    requires { ⌜ Laid n (now lines) (now ranks) × (0 < n) × (n ≤ 1024) × InOrder n (level .0) (now starts) (now orders) ⌝ }
+    requires { ⌜ Laid n (now lines) (now ranks) × (0 < n) × (n ≤ 1024) × InOrder n (level .0) (now starts) × (length (now orders) ≡ level .0 * n) ⌝ }
     ensures rounds { λ _. ⌜ rounds (now (ranks .exit)) (now (orders .exit)) ≡ pruned n (level .0) (now (lines .entry)) (now (starts .entry)) ⌝ }
     ensures count { λ r. ⌜ r ≡ keptCount (pruned n (level .0) (now (lines .entry)) (now (starts .entry)) .ranks) ⌝ }
 {
-    let mut marked = [false; 1024];
-    let mut scanned = [false; 1024];
+    let mut marked = [0u64; 16];
+    let mut scanned = [0u64; 16];
     run_rounds(
         level,
         n,
@@ -109,8 +96,8 @@ fn run(
         starts,
         ranks,
         orders,
-        &mut marked[..n],
-        &mut scanned[..n],
+        &mut marked,
+        &mut scanned,
     )
 }
 

@@ -214,8 +214,8 @@ fn read_records(bytes: &[u8]) -> Reading
     }
 }
 
-// All records of a file, looked at and not yet copied.
-fn read_file(bytes: &[u8]) -> Reading
+// What the bytes of a file say: all its records, looked at and not yet copied.
+pub fn read_file(bytes: &[u8]) -> Reading
     ensures answer { λ r. ⌜ readingAnswer r ≡ fileRead (now (bytes .entry)) ⌝ }
 {
     let judged = judge_record(bytes, Offset(0), Order::First);
@@ -271,6 +271,16 @@ fn copy_starts(bytes: &[u8], counts: Counts, starts: &mut [u16])
     }
 }
 
+// Copies the lines and the starting stations of a file that was read, from the front of each buffer.
+pub fn copy_network(bytes: &[u8], counts: Counts, lines: &mut [u16], starts: &mut [u16])
+    requires { ⌜ (offsetAfter (counts .lines) (counts .starts) ≤ length (now bytes)) × (counts .lines ≤ 8192) × (counts .starts ≤ 16) × (2 * counts .lines ≤ length (now lines)) × (counts .starts ≤ length (now starts)) ⌝ }
+    ensures lines { λ _. ⌜ now (lines .exit) ≡ placed (now (lines .entry)) 0 (lineNumbers (now (bytes .entry)) (counts .lines)) ⌝ }
+    ensures starts { λ _. ⌜ now (starts .exit) ≡ placed (now (starts .entry)) 0 (startNumbers (now (bytes .entry)) (counts .lines) (counts .starts)) ⌝ }
+{
+    copy_lines(bytes, counts.lines, lines);
+    copy_starts(bytes, counts, starts);
+}
+
 // Reads a network file: the room, then all its records, and only then the lent buffers are written.
 pub fn read(bytes: &[u8], lines: &mut [u16], starts: &mut [u16]) -> Reading
     ensures allowed { λ r. ⌜ ReadAllows (now (bytes .entry)) (now (lines .entry)) (now (starts .entry)) r (now (lines .exit)) (now (starts .exit)) ⌝ }
@@ -284,15 +294,11 @@ pub fn read(bytes: &[u8], lines: &mut [u16], starts: &mut [u16]) -> Reading
     let reading = read_file(bytes);
     match reading {
         Reading::Network(found) => {
-            copy_lines(bytes, found.lines, lines);
-            copy_starts(
-                bytes,
-                Counts {
-                    lines: found.lines,
-                    starts: found.starts,
-                },
-                starts,
-            );
+            let counts = Counts {
+                lines: found.lines,
+                starts: found.starts,
+            };
+            copy_network(bytes, counts, lines, starts);
             Reading::Network(found)
         }
         Reading::Refused(refusal) => Reading::Refused(refusal),

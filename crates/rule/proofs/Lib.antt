@@ -4,3 +4,6 @@ pub mod Takes
 pub mod Stages
 pub mod Reached
 pub mod First
+pub mod Plans
+pub mod Rounds
+pub mod RoundsFirst

@@ -3,7 +3,6 @@
 use Prim.Native.Nat.{ℕ, _*_, _<_, _≤_}
 use mathlib.Core.Path.{_≡_}
 use mathlib.Core.List.{List}
-use mathlib.Core.Bool.{Bool}
 use lib.ListN.{length}
 use Rattle.network.specs.Lines.{endOne, endTwo}
 
@@ -14,9 +13,9 @@ pub record Laid (n : ℕ) (lines ranks : List ℕ) : Type 0 where
   pub few : length lines ≤ 16384
   pub pairs : length lines ≡ 2 * length ranks
 
--- There are stations, at most 1,024, and each has its two marks.
-pub record Room (n : ℕ) (marked scanned : List Bool) : Type 0 where
+-- There are stations, at most 1,024, and each of the two sets has 16 words of 64 bits, a bit for each station.
+pub record Room (n : ℕ) (marked scanned : List ℕ) : Type 0 where
   pub some : 0 < n
   pub most : n ≤ 1024
-  pub marks-room : length marked ≡ n
-  pub scans-room : length scanned ≡ n
+  pub marks-room : length marked ≡ 16
+  pub scans-room : length scanned ≡ 16

@@ -8,7 +8,8 @@ use Rattle.kinds.specs.Answers.{Answer.given, Answer.refused}
 use Rattle.network.specs.Lines.{network}
 use Rattle.network.specs.Judging.{listJudged}
 use Rattle.kept.specs.Kept.{keptLines}
-use Rattle.prune.specs.Pruning.{rounds, pruned, pruneAnswer}
+use Rattle.prune.specs.Pruning.{pruneAnswer}
+use Rattle.rule.specs.Rounds.{rounds, pruned}
 use Rattle.plans.specs.Verdicts.{Kind.C, Kind.D, Kind.E, Verdict.accepted, Verdict.faulty}
 use Rattle.plans.specs.Checking.{checkAnswer}
 use Rattle.plans.specs.Published.{MaximalForest}

@@ -7,7 +7,8 @@ use lib.Dec.{ltb}
 use Rattle.kinds.specs.Answers.{Answer}
 use Rattle.network.specs.Judging.{listJudged}
 use Rattle.kept.specs.Kept.{keptLines, copyAnswer, after}
-use Rattle.prune.specs.Pruning.{pruned, pruneAnswer}
+use Rattle.prune.specs.Pruning.{pruneAnswer}
+use Rattle.rule.specs.Rounds.{pruned}
 use Rattle.unite.specs.Union.{united, unionAnswer}
 use Rattle.joined.specs.Asking.{joinedAnswer}
 use Rattle.plans.specs.Checking.{checkAnswer}

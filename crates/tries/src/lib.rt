@@ -148,37 +148,18 @@ fn try_stations(
     try_twos(n, lines, begins, near, gone, pieces, cut)
 }
 
-// The same, with fresh tables.
-fn search_stations(
+// Fewer stations than the level, fewest first, of a list: with marks of which none is set, and tables to work in.
+pub fn search(
     n: usize,
     level: Level,
     lines: &[u16],
+    begins: &mut [u16],
+    near: &mut [u16],
     gone: &mut [bool],
     pieces: &mut [u16],
+    cut: &mut [bool],
 ) -> Found
-    requires { ⌜ Sound n (now lines) × (length (now gone) ≡ n) × Unmarked (now gone) × (length (now pieces) ≡ n) × (isWeak (without n (now lines) []) ≡ false) × (length (now lines) ≤ 6144) ⌝ }
-    ensures found { λ r. ⌜ foundStanding r ≡ withoutStations n (level .0) (now (lines .entry)) ⌝ }
-{
-    let mut begins = [0u16; 1025];
-    let mut near = [0u16; 6144];
-    let mut cut = [false; 1024];
-    let rooms = n + 1;
-    let size = lines.len();
-    try_stations(
-        n,
-        level,
-        lines,
-        &mut begins[..rooms],
-        &mut near[..size],
-        gone,
-        pieces,
-        &mut cut[..n],
-    )
-}
-
-// Fewer stations than the level, fewest first, with marks of which none is set and a table of n entries to work in.
-fn search(n: usize, level: Level, lines: &[u16], gone: &mut [bool], pieces: &mut [u16]) -> Found
-    requires { ⌜ Sound n (now lines) × (length (now gone) ≡ n) × Unmarked (now gone) × (length (now pieces) ≡ n) × (length (now lines) ≤ 6144) ⌝ }
+    requires { ⌜ Sound n (now lines) × (length (now gone) ≡ n) × Unmarked (now gone) × (length (now pieces) ≡ n) × (length (now begins) ≡ n + 1) × (length (now near) ≡ length (now lines)) × (length (now cut) ≡ n) ⌝ }
     ensures found { λ r. ⌜ foundStanding r ≡ weakSpot n (level .0) (now (lines .entry)) ⌝ }
 {
     let none = try_none(n, lines, gone, pieces);
@@ -188,15 +169,5 @@ fn search(n: usize, level: Level, lines: &[u16], gone: &mut [bool], pieces: &mut
     if level.0 < 2 {
         return Found::Stands;
     }
-    search_stations(n, level, lines, gone, pieces)
-}
-
-// The search over a list of so few lines as pruning keeps at level 3, with fresh work arrays.
-pub fn search_list(n: usize, level: Level, lines: &[u16]) -> Found
-    requires { ⌜ Sound n (now lines) × (length (now lines) ≤ 6144) ⌝ }
-    ensures found { λ r. ⌜ foundStanding r ≡ weakSpot n (level .0) (now (lines .entry)) ⌝ }
-{
-    let mut gone = [false; 1024];
-    let mut pieces = [0u16; 1024];
-    search(n, level, lines, &mut gone[..n], &mut pieces[..n])
+    try_stations(n, level, lines, begins, near, gone, pieces, cut)
 }

@@ -1,3 +1,4 @@
+pub mod FromZero
 pub mod Search
 pub mod Rows
 pub mod Spots

@@ -9,7 +9,6 @@ use Rattle.laws.specs.Count.{count}
 use Rattle.network.specs.Faults.{Sound}
 use Rattle.pieces.specs.Joined.{Whole}
 use Rattle.pieces.specs.Away.{isAway, Rising}
-use Rattle.certificate.specs.Starts.{StartsIn}
 use Rattle.parting.specs.Parts.{Parts}
 
 -- A sound list, and a level from 1 to 3.
@@ -17,12 +16,6 @@ pub record Searchable (n k : ℕ) (lines : List ℕ) : Type 0 where
   pub sound : Sound n lines
   pub some : 1 ≤ k
   pub most : k ≤ 3
-
--- The same, with a starting station for each of k rounds: pruning takes it.
-pub record Prunable (n k : ℕ) (lines starts : List ℕ) : Type 0 where
-  pub searchable : Searchable n k lines
-  pub count : length starts ≡ k
-  pub starts-in : StartsIn n k starts
 
 -- "No set of fewer than k stations, taken away, leaves two stations not joined."
 pub record StandsAt (n k : ℕ) (lines : List ℕ) : Type 0 where

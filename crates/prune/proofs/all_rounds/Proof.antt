@@ -12,8 +12,10 @@ use Rattle.laws.specs.Fold.{upTo}
 use Rattle.laws.specs.Count.{count}
 use Rattle.laws.proofs.Fold.{upTo-more}
 use Rattle.laws.proofs.Lists.{part-next, part-fits}
-use Rattle.prune.specs.Pruning.{rounds, nextRound, allRounds}
-use Rattle.prune.proofs.Rounds.{one-more}
+use Rattle.scan.proofs.Laid.{laid-alike}
+use Rattle.rule.specs.Rounds.{rounds, nextRound, allRounds}
+use Rattle.ranks.proofs.Asked.{in-order-each}
+use Rattle.rule.proofs.Rounds.{one-more}
 use Rattle.prune.proofs.all_rounds.Statement.{statement}
 use Rattle.prune.proofs.all_rounds.Tie as tie
 
@@ -23,8 +25,8 @@ Inv-loop n lines starts ranks₀ orders₀ marked₀ scanned₀ k at₀ i₀ ran
     × (at ≡ i * n)
     × (length ranks ≡ length ranks₀)
     × (length orders ≡ length orders₀)
-    × (length marked ≡ n)
-    × (length scanned ≡ n)
+    × (length marked ≡ 16)
+    × (length scanned ≡ 16)
     × (length (upTo (nextRound n lines starts) (rounds ranks₀ []) i .orders) ≡ at)
     × (orders ≡ upTo (nextRound n lines starts) (rounds ranks₀ []) i .orders ++ drop at orders₀)
     × (ranks ≡ upTo (nextRound n lines starts) (rounds ranks₀ []) i .ranks)
@@ -36,7 +38,7 @@ abbrev μ-loop : tie.MeasureT-loop
 part-in : (c : tie.In-loop Inv-loop μ-loop) → c .before .loop .at + c .before .before .before .before .before .before .before .before .args .n ≤ length (c .before .loop .orders)
 part-in c =
     let s = c .before .before .before .before .before .before .before .before in
-    omega (arith, part-fits (c .before .loop .i) (s .args .level .0) (s .args .n) (omega (arith, c .loop-test .taken)), s .pre .2 .room, c .before .loop .inv .3)
+    omega (arith, part-fits (c .before .loop .i) (s .args .level .0) (s .args .n) (omega (arith, c .loop-test .taken)), s .pre .3, c .before .loop .inv .3)
 
 loop-holds : tie.Need-loop-holds Inv-loop μ-loop
 unfolding upTo
@@ -45,39 +47,27 @@ loop-holds c = let p = c .before .before .before .before .before .before .pre in
 add-end : tie.Need-add-end Inv-loop μ-loop
 add-end c = omega (arith, part-in c)
 
-mul-t16 : tie.Need-mul-t16 Inv-loop μ-loop
-mul-t16 c = omega (arith, c .before .before .before .before .before .before .before .before .pre .2 .count, c .before .before .before .before .before .before .before .before .pre .2 .most)
+mul-one-round : tie.Need-mul-one-round Inv-loop μ-loop
+mul-one-round c = omega (arith, part-in (c .before), c .before .before .before .before .before .before .before .before .before .pre .3)
 
-shared-slice-read-t18 : tie.Need-shared-slice-read-t18 Inv-loop μ-loop
-shared-slice-read-t18 c = omega (arith, c .before .before .before .before .before .before .before .before .before .pre .2 .count)
+sub-one-round : tie.Need-sub-one-round Inv-loop μ-loop
+sub-one-round c = omega arith
 
-add-t16 : tie.Need-add-t16 Inv-loop μ-loop
-add-t16 c = omega (arith, c .before .before .before .before .before .before .before .before .before .pre .2 .most)
+part-one-round-start : tie.Need-part-one-round-start Inv-loop μ-loop
+part-one-round-start c = omega arith
 
-cast-t19 : tie.Need-cast-t19 Inv-loop μ-loop
-cast-t19 c = omega (arith, c .before .before .before .before .before .before .before .before .before .pre .2 .most)
+part-one-round-end : tie.Need-part-one-round-end Inv-loop μ-loop
+part-one-round-end c = part-in (c .before)
 
-mul-scan-round : tie.Need-mul-scan-round Inv-loop μ-loop
-mul-scan-round c = omega (arith, part-in (c .before .before), c .before .before .before .before .before .before .before .before .before .before .pre .2 .room)
-
-sub-scan-round : tie.Need-sub-scan-round Inv-loop μ-loop
-sub-scan-round c = omega arith
-
-part-scan-round-start : tie.Need-part-scan-round-start Inv-loop μ-loop
-part-scan-round-start c = omega arith
-
-part-scan-round-end : tie.Need-part-scan-round-end Inv-loop μ-loop
-part-scan-round-end c = part-in (c .before .before)
-
-scan-round-requires : tie.Need-scan-round-requires Inv-loop μ-loop
-scan-round-requires c κs =
-    let s = c .before .before .before .before .before .before .before .before .before .before .before .before .before in
-    let p = s .pre in
-    let l = c .before .before .before .before .before .before .loop in
-    let h = part-in (c .before .before .before .before .before) in (
-      record { one-in = λ q h. p .0 .one-in q (omega (arith, l .inv .2)); two-in = λ q h. p .0 .two-in q (omega (arith, l .inv .2)); few = p .0 .few; pairs = omega (arith, p .0 .pairs, l .inv .2) },
+one-round-requires : tie.Need-one-round-requires Inv-loop μ-loop
+one-round-requires c κs =
+    let p = c .before .before .before .before .before .before .before .before .before .before .before .before .pre in
+    let l = c .before .before .before .before .before .loop in
+    let h = part-in (c .before .before .before .before) in (
+      laid-alike (p .0) (l .inv .2),
       record { some = p .1 .some; most = p .1 .most; marks-room = l .inv .4; scans-room = l .inv .5 },
-      p .2 .below (l .i) (omega arith),
+      in-order-each (p .2),
+      omega (arith, p .2 .count),
       simp (add-sub-cancel-left, length-take, length-drop) (omega (arith, h)),
     )
 
@@ -89,18 +79,18 @@ loop-less c = search needs
 
 loop-again : tie.Need-loop-again Inv-loop μ-loop
 loop-again c =
-    let s = c .before .before .before .before .before .before .before .before .before .before .before .before .before .before .before .before .before .before .before .before .before .before in
+    let s = c .before .before .before .before .before .before .before .before .before .before .before .before .before .before .before .before .before .before .before .before .before in
     let a = s .args in
-    let l = c .before .before .before .before .before .before .before .before .before .before .before .before .before .before .before .loop in
-    let d = c .before .before .before .before .before .before .before .before .scan-round in
+    let l = c .before .before .before .before .before .before .before .before .before .before .before .before .before .before .loop in
+    let d = c .before .before .before .before .before .before .before .before .one-round in
     let i = l .inv in
     let f = nextRound (a .n) (a .lines .now) (a .starts .now) in
     let z = rounds (a .ranks .now) [] in
-    let h = part-in (c .before .before .before .before .before .before .before .before .before .before .before .before .before .before) in
+    let h = part-in (c .before .before .before .before .before .before .before .before .before .before .before .before .before) in
     let part : length (take (l .at + a .n - l .at) (drop (l .at) (l .orders))) ≡ a .n = simp (add-sub-cancel-left, length-take, length-drop) (omega (arith, h)) in
     let w = one-more (a .n) (a .lines .now) (a .starts .now) (l .i) (l .at) (upTo f z (l .i)) (a .orders .now) (l .ranks) (l .orders)
     (d .last .1 .1 .1 .1 .0) (d .last .1 .1 .1 .1 .1 .0) (i .6) (i .7) (i .8) (d .ensures .0) (d .ensures .1) (d .kept .1 .1 .1 .1 .1 .0 ∙ part) in (
-      omega (arith, c .before .before .before .before .before .before .before .before .before .before .before .before .before .before .loop-test .taken),
+      omega (arith, c .before .before .before .before .before .before .before .before .before .before .before .before .before .loop-test .taken),
       omega (arith, part-next (l .i) (a .n), i .1),
       d .kept .1 .1 .1 .1 .0 ∙ i .2,
       simp (length-append, length-take, length-drop) (omega (arith, i .3, h, d .kept .1 .1 .1 .1 .1 .0 ∙ part)),
@@ -130,7 +120,7 @@ returns c =
     let a = s .args in
     let l = c .before .loop in
     let e : l .i ≡ a .level .0 = omega arith in
-    let g : l .at ≡ length (a .orders .now) = omega (arith, s .pre .2 .room, ap (λ (x : ℕ). x * a .n) e) in
+    let g : l .at ≡ length (a .orders .now) = omega (arith, s .pre .3, ap (λ (x : ℕ). x * a .n) e) in
     let o = simp (drop-length, append-nil) at (rw g at (l .inv .7)) in
     let w : rounds (l .ranks) (l .orders) ≡ upTo (nextRound (a .n) (a .lines .now) (a .starts .now)) (rounds (a .ranks .now) []) (l .i) = ap₂ rounds (l .inv .8) o in
     rw e at w
@@ -143,15 +133,11 @@ all-rounds-spec =
     μ-loop
     loop-holds
     add-end
-    mul-t16
-    shared-slice-read-t18
-    add-t16
-    cast-t19
-    mul-scan-round
-    sub-scan-round
-    part-scan-round-start
-    part-scan-round-end
-    scan-round-requires
+    mul-one-round
+    sub-one-round
+    part-one-round-start
+    part-one-round-end
+    one-round-requires
     add-i
     loop-less
     loop-again

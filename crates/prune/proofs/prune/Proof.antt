@@ -8,16 +8,17 @@ use native.Mathlib.Nat.{mul-le-mul}
 use borrow.Author.Needs.{needs}
 use lib.Seq.{length-front, length-take-le}
 use lib.ListN.{length}
-use Rattle.laws.specs.Count.{count}
 use Rattle.kinds.specs.Answers.{Answer.given, taken, refusalAnswer}
 use Rattle.limits.specs.Limits.{planShort}
 use Rattle.request.specs.Judging.{requestJudged}
 use Rattle.request.specs.Requests.{Request}
 use Rattle.request.proofs.Judging.{request-good}
 use Rattle.kept.specs.Kept.{after}
-use Rattle.prune.specs.Pruning.{Rounds, pruneAnswer}
+use Rattle.prune.specs.Pruning.{pruneAnswer}
+use Rattle.rule.specs.Rounds.{Rounds}
 use Rattle.kept.proofs.After.{written}
 use Rattle.limits.proofs.Room.{room-enough}
+use Rattle.ranks.proofs.Asked.{request-laid, request-in-order}
 use Rattle.prune.proofs.prune.Statement.{statement}
 use Rattle.prune.proofs.prune.Tie as tie
 
@@ -72,19 +73,13 @@ run-requires : tie.Need-run-requires
 run-requires c κs =
     let a = c .before .before .before .before .before .before .before .before .before .before .before .args in
     let r = in-order (c .before .before .before) .1 in
-    let proper = r .sound .simple .proper in
     let w = r .sized .within in
-    let (lr, lo) = room-enough (a .n) (a .level .0) (a .lines .now) (length (a .ranks .now)) (length (a .orders .now)) (r .sized .room) in
-    let half = length-take-le (length (a .lines .now) / 2) (a .ranks .now) lr in (
-      record {
-        one-in = λ q h. proper .one-in q (omega (arith, half));
-        two-in = λ q h. proper .two-in q (omega (arith, half));
-        few = w .few;
-        pairs = omega (arith, half, w .even);
-      },
+    let (lr, lo) = room-enough (a .n) (a .level .0) (a .lines .now) (length (a .ranks .now)) (length (a .orders .now)) (r .sized .room) in (
+      request-laid r (length-take-le (length (a .lines .now) / 2) (a .ranks .now) lr),
       w .some,
       w .most,
-      record { most = r .sized .most; count = r .sized .starts-count; below = r .starts-in; room = length-take-le (a .level .0 * a .n) (a .orders .now) lo },
+      request-in-order r,
+      length-take-le (a .level .0 * a .n) (a .orders .now) lo,
     )
 
 same-length : tie.Need-same-length

@@ -7,7 +7,8 @@ use native.Mathlib.Omega.{arith}
 use borrow.Author.Needs.{needs}
 use lib.ListN.{length, replicate}
 use Rattle.kept.specs.Kept.{keptCount}
-use Rattle.prune.specs.Pruning.{Rounds, allRounds, pruned}
+use Rattle.scan.proofs.Laid.{laid-alike}
+use Rattle.rule.specs.Rounds.{Rounds, allRounds, pruned}
 use Rattle.prune.proofs.run_rounds.Statement.{statement}
 use Rattle.prune.proofs.run_rounds.Tie as tie
 
@@ -17,11 +18,7 @@ clear-requires c κs = search needs
 all-rounds-requires : tie.Need-all-rounds-requires
 all-rounds-requires c κs =
     let p = c .before .before .before .before .before .before .before .before .before .before .before .before .before .before .pre in
-    let e = c .before .before .before .before .before .before .clear .kept .0 in (
-      record { one-in = λ q h. p .0 .one-in q (omega (arith, e)); two-in = λ q h. p .0 .two-in q (omega (arith, e)); few = p .0 .few; pairs = omega (arith, p .0 .pairs, e) },
-      p .1,
-      p .2,
-    )
+    (laid-alike (p .0) (c .before .before .before .before .before .before .clear .kept .0), p .1, p .2, p .3)
 
 count-kept-requires : tie.Need-count-kept-requires
 count-kept-requires c κs = search needs

@@ -30,21 +30,14 @@ read-file-requires c κs = search needs
 enum-known-reading : tie.Need-enum-known-reading
 enum-known-reading c = search needs
 
-copy-lines-requires : tie.Need-copy-lines-requires
-copy-lines-requires c κs =
-    let a = c .before .before .before .before .before .before .before .before .before .before .args in
-    let found = c .before .before .reading .given .0 .0 in
-    let e : fileRead (a .bytes .now) ≡ given (factsOf found) = sym (c .before .before .before .before .read-file .ensures) ∙ ap readingAnswer (c .before .before .reading .given .1) in
-    let f = read-formed (a .bytes .now) (factsOf found) e in
-    (omega (arith, f .size), f .few-lines, omega (arith, f .few-lines))
+-- what the bytes say, once a network was found
+found : (c : tie.After-reading) → fileRead (c .before .before .before .before .before .before .before .before .args .bytes .now) ≡ given (factsOf (c .reading .given .0 .0))
+found c = sym (c .before .before .read-file .ensures) ∙ ap readingAnswer (c .reading .given .1)
 
-copy-starts-requires : tie.Need-copy-starts-requires
-copy-starts-requires c κs =
-    let a = c .before .before .before .before .before .before .before .before .before .before .before .before .before .before .args in
-    let found = c .before .before .before .before .before .before .reading .given .0 .0 in
-    let e : fileRead (a .bytes .now) ≡ given (factsOf found) = sym (c .before .before .before .before .before .before .before .before .read-file .ensures) ∙ ap readingAnswer (c .before .before .before .before .before .before .reading .given .1) in
-    let f = read-formed (a .bytes .now) (factsOf found) e in
-    (omega (arith, f .size), f .few-starts, omega (arith, f .few-starts))
+copy-network-requires : tie.Need-copy-network-requires
+copy-network-requires c κs =
+    let f = read-formed (c .before .before .before .before .before .before .before .before .before .before .before .args .bytes .now) (factsOf (c .before .before .before .reading .given .0 .0)) (found (c .before .before .before)) in
+    (omega (arith, f .size), f .few-lines, f .few-starts, omega (arith, f .few-lines), omega (arith, f .few-starts))
 
 enum-known-reading-2 : tie.Need-enum-known-reading-2
 enum-known-reading-2 c = search needs
@@ -58,11 +51,9 @@ same-length-2 c = search needs
 returns-3 : tie.Need-returns-3
 unfolding linesAfter startsAfter
 returns-3 c =
-    let a = c .before .before .before .before .before .before .before .before .before .before .before .before .before .before .before .before .before .args in
-    let found = c .before .before .before .before .before .before .before .before .before .reading .given .0 .0 in
-    let e : fileRead (a .bytes .now) ≡ given (factsOf found) = sym (c .before .before .before .before .before .before .before .before .before .before .before .read-file .ensures) ∙ ap readingAnswer (c .before .before .before .before .before .before .before .before .before .reading .given .1) in
-    let r = read-room (a .bytes .now) (a .lines .now) (a .starts .now) (omega arith) (omega arith) ∙ e in
-    record { answer = sym r; new-lines = rw r (c .before .before .before .before .before .before .copy-lines .ensures); new-starts = rw r (c .before .before .copy-starts .ensures) }
+    let a = c .before .before .before .before .before .before .before .before .before .before .before .before .before .before .before .before .args in
+    let r = read-room (a .bytes .now) (a .lines .now) (a .starts .now) (omega arith) (omega arith) ∙ found (c .before .before .before .before .before .before .before .before) in
+    record { answer = sym r; new-lines = rw r (c .before .before .before .before .copy-network .ensures .0); new-starts = rw r (c .before .before .before .before .copy-network .ensures .1) }
 
 returns-4 : tie.Need-returns-4
 unfolding linesAfter startsAfter
@@ -80,8 +71,7 @@ read-spec =
     returns-2
     read-file-requires
     enum-known-reading
-    copy-lines-requires
-    copy-starts-requires
+    copy-network-requires
     enum-known-reading-2
     same-length
     same-length-2

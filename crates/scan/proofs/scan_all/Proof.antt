@@ -10,7 +10,9 @@ use lib.Seq.{drop-length}
 use Rattle.laws.specs.Fold.{upTo}
 use Rattle.laws.proofs.Fold.{upTo-more}
 use Rattle.laws.proofs.Lists.{store-next}
+use Rattle.bits.specs.Sets.{members}
 use Rattle.rule.specs.Rule.{Scanning, scanning, scanNext, allScanned}
+use Rattle.scan.proofs.Laid.{laid-alike}
 use Rattle.scan.proofs.scan_all.Statement.{statement}
 use Rattle.scan.proofs.scan_all.Tie as tie
 
@@ -19,12 +21,13 @@ Inv-loop round n lines ranks₀ order₀ marked₀ scanned₀ i₀ ranks order m
     (i ≤ n)
     × (length ranks ≡ length ranks₀)
     × (length order ≡ n)
-    × (length marked ≡ n)
-    × (length scanned ≡ n)
+    × (length marked ≡ 16)
+    × (length scanned ≡ 16)
     × (front : List ℕ)
     × (length front ≡ i)
     × (order ≡ front ++ drop i order₀)
-    × (scanning ranks marked scanned front ≡ upTo (λ x. scanNext n lines (round .0)) (scanning ranks₀ marked₀ scanned₀ []) i)
+    × (scanning ranks (members n marked) (members n scanned) front
+    ≡ upTo (λ x. scanNext n lines (round .0)) (scanning ranks₀ (members n marked₀) (members n scanned₀) []) i)
 
 abbrev μ-loop : tie.MeasureT-loop
 μ-loop round n lines ranks₀ order₀ marked₀ scanned₀ i₀ ranks order marked scanned i = n - i
@@ -37,7 +40,7 @@ scan-next-requires : tie.Need-scan-next-requires Inv-loop μ-loop
 scan-next-requires c κs =
     let i = c .before .before .before .before .loop .inv in
     let p = c .before .before .before .before .before .before .before .before .before .before .pre in (
-      record { one-in = λ q h. p .0 .one-in q (omega (arith, i .1)); two-in = λ q h. p .0 .two-in q (omega (arith, i .1)); few = p .0 .few; pairs = omega (arith, p .0 .pairs, i .1) },
+      laid-alike (p .0) (i .1),
       record { some = p .1 .some; most = p .1 .most; marks-room = i .3; scans-room = i .4 },
     )
 
@@ -90,7 +93,8 @@ returns c =
     let a = c .before .before .before .before .before .before .before .args in
     let l = c .before .loop in
     let e : l .i ≡ a .n = omega arith in
-    let w : scanning (l .ranks) (l .marked) (l .scanned) (l .inv .5) ≡ upTo (λ x. scanNext (a .n) (a .lines .now) (a .round .0)) (scanning (a .ranks .now) (a .marked .now) (a .scanned .now) []) (a .n) = rw e at (l .inv .8) in
+    let w : scanning (l .ranks) (members (a .n) (l .marked)) (members (a .n) (l .scanned)) (l .inv .5)
+    ≡ upTo (λ x. scanNext (a .n) (a .lines .now) (a .round .0)) (scanning (a .ranks .now) (members (a .n) (a .marked .now)) (members (a .n) (a .scanned .now)) []) (a .n) = rw e at (l .inv .8) in
     let g : l .i ≡ length (a .order .now) = omega (arith, c .before .before .before .before .before .before .before .pre .2) in
     (ap (λ (t : Scanning). t .ranks) w, ((rw g at (l .inv .7)) ∙ simp (drop-length, append-nil)) ∙ ap (λ (t : Scanning). t .order) w)
 

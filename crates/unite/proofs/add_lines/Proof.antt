@@ -17,10 +17,10 @@ use Rattle.unite.proofs.add_lines.Statement.{statement}
 use Rattle.unite.proofs.add_lines.Tie as tie
 
 abbrev Inv-loop : tie.InvT-loop
-Inv-loop lines pairs room₀ stands count at₀ p₀ room at p = (p ≤ count) × (length room ≡ length room₀) × Filled (upTo (addNew pairs lines) (take stands room₀) p) room₀ at room
+Inv-loop lines again room₀ stands count at₀ p₀ room at p = (p ≤ count) × (length room ≡ length room₀) × Filled (upTo (addNew again lines) (take stands room₀) p) room₀ at room
 
 abbrev μ-loop : tie.MeasureT-loop
-μ-loop lines pairs room₀ stands count at₀ p₀ room at p = count - p
+μ-loop lines again room₀ stands count at₀ p₀ room at p = count - p
 
 loop-holds : tie.Need-loop-holds Inv-loop μ-loop
 unfolding upTo
@@ -28,7 +28,7 @@ loop-holds c =
     let a = c .before .before .before .args in (
       search needs,
       refl,
-      record { size = length-take-le (a .stands) (a .room .now) (omega (arith, c .before .before .before .pre .2)); is = sym (take-append-drop (a .stands) (a .room .now)) },
+      record { size = length-take-le (a .stands) (a .room .now) (omega (arith, c .before .before .before .pre .1)); is = sym (take-append-drop (a .stands) (a .room .now)) },
     )
 
 cast-t10 : tie.Need-cast-t10 Inv-loop μ-loop
@@ -39,12 +39,11 @@ add-line-requires c κs =
     let a = c .before .before .before .before .before .before .args in
     let l = c .before .before .loop in
     let pre = c .before .before .before .before .before .before .pre in
-    let new = isNew (a .pairs .now) (a .lines .now) in
-    let size : l .at ≡ a .stands + 2 * count (l .p) new = omega (arith, l .inv .2 .size, add-size (a .pairs .now) (a .lines .now) (take (a .stands) (a .room .now)) (l .p), length-take-le (a .stands) (a .room .now) (omega (arith, pre .2))) in (
-      pre .1,
+    let new = isNew (a .again .now) in
+    let size : l .at ≡ a .stands + 2 * count (l .p) new = omega (arith, l .inv .2 .size, add-size (a .again .now) (a .lines .now) (take (a .stands) (a .room .now)) (l .p), length-take-le (a .stands) (a .room .now) (omega (arith, pre .1))) in (
       omega arith,
-      omega (arith, l .inv .1, pre .2, count-rise new (l .p) (length (a .lines .now) / 2) (omega arith)),
-      λ h. omega (arith, l .inv .1, pre .2, count-rise new (l .p + 1) (length (a .lines .now) / 2) (omega arith), rw h at (count-more new (l .p))),
+      omega (arith, l .inv .1, pre .1, count-rise new (l .p) (length (a .lines .now) / 2) (omega arith)),
+      λ h. omega (arith, l .inv .1, pre .1, count-rise new (l .p + 1) (length (a .lines .now) / 2) (omega arith), rw h at (count-more new (l .p))),
     )
 
 add-p : tie.Need-add-p Inv-loop μ-loop
@@ -57,7 +56,7 @@ loop-again : tie.Need-loop-again Inv-loop μ-loop
 loop-again c =
     let a = c .before .before .before .before .before .before .before .before .before .args in
     let l = c .before .before .before .before .before .loop in
-    let step = addNew (a .pairs .now) (a .lines .now) in
+    let step = addNew (a .again .now) (a .lines .now) in
     let front = take (a .stands) (a .room .now) in
     (omega arith, omega arith, rw (upTo-more step front (l .p)) (c .before .before .add-line .ensures (upTo step front (l .p)) (a .room .now) (sym (l .inv .1)) (l .inv .2)))
 
@@ -68,8 +67,8 @@ returns : tie.Need-returns Inv-loop μ-loop
 returns c =
     let a = c .before .before .before .before .before .args in
     let l = c .before .loop in
-    let new = isNew (a .pairs .now) (a .lines .now) in
-    let size : l .at ≡ a .stands + 2 * count (l .p) new = omega (arith, l .inv .2 .size, add-size (a .pairs .now) (a .lines .now) (take (a .stands) (a .room .now)) (l .p), length-take-le (a .stands) (a .room .now) (omega (arith, c .before .before .before .before .before .pre .2))) in
+    let new = isNew (a .again .now) in
+    let size : l .at ≡ a .stands + 2 * count (l .p) new = omega (arith, l .inv .2 .size, add-size (a .again .now) (a .lines .now) (take (a .stands) (a .room .now)) (l .p), length-take-le (a .stands) (a .room .now) (omega (arith, c .before .before .before .before .before .pre .1))) in
     let e : l .p ≡ length (a .lines .now) / 2 = omega arith in
     rw (size, e) at (l .inv .2)
 

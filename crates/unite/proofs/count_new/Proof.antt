@@ -1,4 +1,4 @@
--- `unite::count_new` meets its contract. The loop's invariant: `new` counts the lines before p that the set lacks. The measure is the
+-- `unite::count_new` meets its contract. The loop's invariant: `new` counts the places before p that the set lacks. The measure is the
 -- number of lines left. Assumes nothing.
 use Prim.Native.Nat.{_-_, _/_, _≤_}
 use mathlib.Core.Path.{_≡_, refl, sym, _∙_}
@@ -13,19 +13,16 @@ use Rattle.unite.proofs.count_new.Statement.{statement}
 use Rattle.unite.proofs.count_new.Tie as tie
 
 abbrev Inv-loop : tie.InvT-loop
-Inv-loop lines pairs places new₀ p₀ new p = (p ≤ places) × (new ≤ p) × (new ≡ count p (isNew pairs lines))
+Inv-loop lines again places new₀ p₀ new p = (p ≤ places) × (new ≤ p) × (new ≡ count p (isNew again))
 
 abbrev μ-loop : tie.MeasureT-loop
-μ-loop lines pairs places new₀ p₀ new p = places - p
+μ-loop lines again places new₀ p₀ new p = places - p
 
 loop-holds : tie.Need-loop-holds Inv-loop μ-loop
 loop-holds c = (search needs, search needs, refl)
 
-cast-t9 : tie.Need-cast-t9 Inv-loop μ-loop
-cast-t9 c = search needs
-
-is-new-requires : tie.Need-is-new-requires Inv-loop μ-loop
-is-new-requires c κs = (c .before .before .before .before .pre .1, omega arith)
+is-in-requires : tie.Need-is-in-requires Inv-loop μ-loop
+is-in-requires c κs = search needs
 
 add-new : tie.Need-add-new Inv-loop μ-loop
 add-new c = omega arith
@@ -37,16 +34,16 @@ loop-less : tie.Need-loop-less Inv-loop μ-loop
 loop-less c = search needs
 
 loop-again : tie.Need-loop-again Inv-loop μ-loop
+unfolding isNew
 loop-again c =
-    let a = c .before .before .before .before .before .before .args in
+    let again = c .before .before .before .before .before .before .args .again .now in
     let l = c .before .before .before .loop in
-    let test = isNew (a .pairs .now) (a .lines .now) in
     let p = l .p in
     let i = l .inv in
-    let said = c .before .is-new .ensures in
+    let said = c .before .is-in .ensures in
     ⊎-elim
-    (λ w. (omega arith, omega arith, sym (count-more test p ∙ rw (sym said ∙ w .0 .taken) (omega (arith, i .2)))))
-    (λ w. (omega arith, omega arith, sym (count-more test p ∙ rw (sym said ∙ w .0 .left) (omega (arith, i .2)))))
+    (λ w. (omega arith, omega arith, sym (count-more (isNew again) p ∙ rw (rw said at (w .0 .taken)) (omega (arith, i .2)))))
+    (λ w. (omega arith, omega arith, sym (count-more (isNew again) p ∙ rw (rw said at (w .0 .left)) (omega (arith, i .2)))))
     (c .if1 .came)
 
 returns : tie.Need-returns Inv-loop μ-loop
@@ -57,14 +54,4 @@ returns c =
 pub count-new-spec : {M : Type 1} → statement M
 count-new-spec =
     tie.close
-    (tie.spec
-    Inv-loop
-    μ-loop
-    loop-holds
-    cast-t9
-    is-new-requires
-    add-new
-    add-p
-    loop-less
-    loop-again
-    returns)
+    (tie.spec Inv-loop μ-loop loop-holds is-in-requires add-new add-p loop-less loop-again returns)

@@ -4,7 +4,6 @@ use borrow.Author.Needs.{needs}
 use Rattle.kinds.specs.Answers.{taken, refusalAnswer, isRefused}
 use Rattle.kept.specs.Kept.{after}
 use Rattle.unite.specs.Union.{listsJudged, unionAnswer}
-use Rattle.unite.proofs.Adding.{sound-proper}
 use Rattle.unite.proofs.Judging.{lists-sound}
 use Rattle.unite.proofs.unite.Statement.{statement}
 use Rattle.unite.proofs.unite.Tie as tie
@@ -29,8 +28,7 @@ unite-lists-requires : tie.Need-unite-lists-requires
 unite-lists-requires c κs =
     let a = c .before .before .before .before .before .before .before .args in
     let e : listsJudged (a .n) (a .first .now) (a .second .now) ≡ taken = sym (c .before .before .before .judge-lists .ensures) ∙ rw (c .before .enum-told .given .1) in
-    let (one, two) = lists-sound (a .n) (a .first .now) (a .second .now) (ap isRefused e) in
-    (one .within .few, two .within .few, sound-proper one, sound-proper two)
+    lists-sound (a .n) (a .first .now) (a .second .now) (ap isRefused e)
 
 same-length : tie.Need-same-length
 same-length c = search needs
