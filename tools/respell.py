@@ -54,7 +54,7 @@ def is_odd(name):
 def snake(name):
     if name in TOGETHER:
         return TOGETHER[name]
-    name = re.sub(r"([a-z0-9])([A-Z])", lambda m: m[1] + "_" + m[2].lower(), name.replace("′", "'"))
+    name = re.sub(r"([a-z0-9])([A-Z]+)", lambda m: m[1] + "_" + m[2].lower(), name.replace("′", "'"))
     return name.replace("-", "_")
 
 

@@ -1,4 +1,6 @@
 // How an answer crosses to C: a refusal, a verdict, a weak spot or a text as numbers, written where the caller says.
+#![tactic(auto)]
+
 ghost use Rattle.std.specs.Prelude.{◌≡◌, length, get_or};
 ghost use Rattle.kinds.specs.Answers.{Answer.given};
 ghost use Rattle.kinds.specs.Refusals.{number_of, place_of, list_of};
@@ -45,7 +47,7 @@ fn kind_number(kind: FaultKind) -> u8
 }
 
 // Where a fault is: a line's place, a position or a station, by its kind.
-#[derive(Drop)]
+#[derive(Clone, Copy)]
 struct FaultPlace(usize);
 
 // The place of a fault.

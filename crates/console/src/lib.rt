@@ -1,4 +1,6 @@
 // Standard output, for both programs.
+#![tactic(auto)]
+
 use libc::STDOUT_FILENO;
 
 // Writes the first `count` bytes of a text to standard output.

@@ -1,4 +1,6 @@
 // Cut stations: those that, taken away too, leave two of the others not joined. One depth-first pass finds them all.
+#![tactic(auto)]
+
 ghost use Rattle.std.specs.Prelude.{◌≡◌, Bool, true, false, ◌||◌, ◌&&◌, List, ℕ, ◌+◌, ◌<◌, ◌≤◌, min, length, get_or, set, ltb, leb};
 ghost use Rattle.pieces.specs.Away.{is_gone};
 ghost use Rattle.pieces.specs.Joined.{Remains, Whole};
@@ -10,16 +12,16 @@ ghost use Rattle.cuts.specs.Passes.{Laid, Unseen, first_depth};
 use kinds::Station;
 
 // How deep a station lies on the way that a pass took to it: 1 where it began. 0: the pass has not come to it; over 1,024: it is taken away.
-#[derive(Drop)]
+#[derive(Clone, Copy)]
 struct Depth(u16);
 
 // A place in the table of neighbours.
-#[derive(Drop)]
+#[derive(Clone, Copy)]
 struct Entry(u16);
 
 // A visit that is under way: of which station, which of its neighbours is looked at next, and what is known so far: the least depth that it
 // or what lies below it is next to, whether another station is seen, and whether it is a cut station.
-#[derive(Drop)]
+#[derive(Clone, Copy)]
 struct Visit {
     station: Station,
     next: Entry,

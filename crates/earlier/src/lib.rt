@@ -1,4 +1,6 @@
 // Which lines stood earlier: in a first list, or before them in their own.
+#![tactic(auto)]
+
 ghost use Rattle.std.specs.Prelude.{◌≡◌, ◌&&◌, ◌≢◌, ℕ, ◌/◌, ◌<◌, ◌≤◌, ltb, length, replicate};
 ghost use Rattle.laws.specs.Fold.{pick};
 ghost use Rattle.bits.specs.Sets.{is_in, put_in};

@@ -1,4 +1,6 @@
 // What the check of a plan can find; and its test of a round's entries, that they are each station once.
+#![tactic(auto)]
+
 ghost use Rattle.std.specs.Prelude.{◌≡◌, false, ◌+◌, ◌≤◌, ◌<◌, length};
 ghost use Rattle.plans.specs.Verdicts.{is_faulty};
 ghost use Rattle.plans.specs.Checking.{entry_verdict, order_verdict};
@@ -8,7 +10,7 @@ ghost use Rattle.entries.specs.Placed.{Placed};
 use kinds::{Place, Position, Round, Station};
 
 // What is wrong: a kind of the document's table, with its own place.
-#[derive(Drop)]
+#[derive(Clone, Copy)]
 pub enum FaultKind {
     // A: a line's rank is above k.
     RankAbove(Place),
@@ -23,14 +25,14 @@ pub enum FaultKind {
 }
 
 // A fault, in its round; A has round 0.
-#[derive(Drop)]
+#[derive(Clone, Copy)]
 pub struct Fault {
     pub round: Round,
     pub kind: FaultKind,
 }
 
 // What is found in a plan: nothing wrong, or its first fault.
-#[derive(Drop)]
+#[derive(Clone, Copy)]
 pub enum Verdict {
     Accepted,
     Faulty(Fault),

@@ -1,4 +1,6 @@
 // The check of forests: whether rounds and orders from anywhere meet the published definition.
+#![tactic(auto)]
+
 ghost use Rattle.std.specs.Prelude.{◌≡◌, ◌*◌, ◌≤◌, length};
 ghost use Rattle.entries.specs.Answers.{verdict_said};
 ghost use Rattle.forests.specs.Answers.{checked_answer};
@@ -15,7 +17,7 @@ use network::rank_at;
 use rounds::check_round;
 
 // What the check says: what it found, or why the input is refused.
-#[derive(Drop)]
+#[derive(Clone, Copy)]
 pub enum Checked {
     Found(Verdict),
     Refused(Refusal),

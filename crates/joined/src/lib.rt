@@ -1,4 +1,6 @@
 // Whether two stations are joined when others are taken away.
+#![tactic(auto)]
+
 ghost use Rattle.std.specs.Prelude.{◌≡◌, ◌||◌, List, ℕ, ◌<◌, ◌≤◌, leb, length};
 ghost use Rattle.kinds.specs.Answers.{Answer.given, judged_answer, refuse_if, ◌and_then◌};
 ghost use Rattle.kinds.specs.Refusals.{asked_number};
@@ -14,7 +16,7 @@ use kinds::{Asked, Judged, Position, Refusal, Station, first_refusal, is_refused
 use pieces::find_pieces;
 
 // What the joined question says: joined or apart, or why it refuses.
-#[derive(Drop)]
+#[derive(Clone, Copy)]
 pub enum Answered {
     Joined,
     Apart,

@@ -15,7 +15,7 @@ use Rattle.bits.specs.Sets.{is_in}
 use Rattle.kinds.specs.Answers.{Answer.refused, taken, is_refused}
 use Rattle.network.specs.Lines.{end_one, end_two, network, Proper}
 use Rattle.network.specs.Faults.{EndsGood}
-use Rattle.network.specs.Judging.{stood_before, ends_judged, line_judged, lines_judged}
+use Rattle.network.specs.Judging.{same_ends, stood_before, ends_judged, line_judged, lines_judged}
 use Rattle.network.proofs.Judging.{ends_good, line_ends_refused, line_stood, line_taken}
 use Rattle.earlier.specs.Earlier.{stood_earlier}
 use Rattle.judging.specs.Ends.{bad_ends, good_ends, Marks}
@@ -73,7 +73,7 @@ module _ (list n : ℕ) (lines : List ℕ) (until : ℕ) (is : until ≡ good_en
   unfolding stood_earlier first_from
   front_stood p l =
       rw (front_one p l, front_two p l)
-      (first_same (λ b. b) _ _ false p 0 (λ q a b. rw (front_one q (omega arith), front_two q (omega arith))))
+      (first_same (λ b. b) (λ q. same_ends (end_one lines p) (end_two lines p) (end_one front q) (end_two front q)) (λ q. same_ends (end_one lines p) (end_two lines p) (end_one lines q) (end_two lines q)) false p 0 (λ q a b. rw (front_one q (omega arith), front_two q (omega arith))))
 
   -- what the search for lines that stood earlier says of them
   pub front_marks : (again : List ℕ) → ((p : ℕ) → is_in again p ≡ (ltb p (length front / 2) && stood_earlier [] front p)) → Marks until lines again

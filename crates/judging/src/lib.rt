@@ -1,4 +1,6 @@
 // The judge of a network: refusals 1 and 2, then each line in list order for 6, 7 and 8.
+#![tactic(auto)]
+
 ghost use Rattle.std.specs.Prelude.{◌≡◌, ◌≤◌, length};
 ghost use Rattle.kinds.specs.Answers.{judged_answer};
 ghost use Rattle.kinds.specs.Refusals.{list_number};

@@ -1,4 +1,6 @@
 // The kept lines of a list: counted, and copied out.
+#![tactic(auto)]
+
 ghost use Rattle.std.specs.Prelude.{◌≡◌, true, List, ◌++◌, ℕ, ◌+◌, ◌*◌, ◌/◌, ◌≤◌, ◌<◌, length, drop};
 ghost use Rattle.kept.specs.Answers.{CopyAllows};
 ghost use Rattle.kept.specs.Kept.{is_kept, kept_count, copy_line, kept_lines, kept_of};
@@ -9,7 +11,7 @@ use limits::judge_length;
 use network::line_at;
 
 // What copying says: how many lines it wrote, or why it refuses.
-#[derive(Drop)]
+#[derive(Clone, Copy)]
 pub enum Copied {
     Lines(usize),
     Refused(Refusal),

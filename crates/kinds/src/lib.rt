@@ -1,38 +1,40 @@
 // Numbers that say what they number, and the refusals with their places.
+#![tactic(auto)]
+
 ghost use Rattle.std.specs.Prelude.{◌≡◌};
 ghost use Rattle.kinds.specs.Answers.{is_refused, judged_answer, ◌and_then◌};
 ghost use Rattle.kinds.specs.Refusals.{list_number, asked_number, number_of, place_of, list_of};
 
 // The number of a station: 0 to n - 1.
-#[derive(Drop)]
+#[derive(Clone, Copy)]
 pub struct Station(pub u16);
 
 // The place of a line in its list, counted from 0.
-#[derive(Drop)]
+#[derive(Clone, Copy)]
 pub struct Place(pub u16);
 
 // The number of a round: 1 to k.
-#[derive(Drop)]
+#[derive(Clone, Copy)]
 pub struct Round(pub u8);
 
 // A position in a list of stations, as an order or the stations taken away, counted from 0.
-#[derive(Drop)]
+#[derive(Clone, Copy)]
 pub struct Position(pub u16);
 
 // The level k that an owner asks for. It is wide, so that no caller cuts it down before it is refused.
-#[derive(Drop)]
+#[derive(Clone, Copy)]
 pub struct Level(pub usize);
 
 // The offset of a byte in a file.
-#[derive(Drop)]
+#[derive(Clone, Copy)]
 pub struct Offset(pub usize);
 
 // Where a refusal says the fault is: a line's place, a round, an index or an offset, by the refusal's row.
-#[derive(Drop)]
+#[derive(Clone, Copy)]
 pub struct RefusalPlace(pub usize);
 
 // Which line list a refusal speaks of: the only one, or the first or the second of a union.
-#[derive(Drop)]
+#[derive(Clone, Copy)]
 pub enum LineList {
     Only,
     First,
@@ -40,14 +42,14 @@ pub enum LineList {
 }
 
 // Which of the two stations that were asked about.
-#[derive(Drop)]
+#[derive(Clone, Copy)]
 pub enum Asked {
     First,
     Second,
 }
 
 // Why an input is refused, and where: a variant for each row of the table, the file's own rows after it.
-#[derive(Drop)]
+#[derive(Clone, Copy)]
 pub enum Refusal {
     // 1: n is not 1 to 1,024.
     StationCount,
@@ -90,7 +92,7 @@ pub enum Refusal {
 }
 
 // What a judge says of an input: taken, or the first refusal that holds.
-#[derive(Drop)]
+#[derive(Clone, Copy)]
 pub enum Judged {
     Taken,
     Refused(Refusal),

@@ -1,4 +1,6 @@
 // The refusals that look at sizes alone: of the stations, a line list, a level and the room in lent buffers.
+#![tactic(auto)]
+
 ghost use Rattle.std.specs.Prelude.{◌≡◌, ◌||◌, ltb};
 ghost use Rattle.kinds.specs.Answers.{judged_answer, refuse_if};
 ghost use Rattle.kinds.specs.Refusals.{list_number, number_of, place_of, list_of};

@@ -1,4 +1,6 @@
 // The neighbours of each station, in a table: those of station u stand from begins[u] to before begins[u + 1].
+#![tactic(auto)]
+
 ghost use Rattle.std.specs.Prelude.{◌≡◌, ℕ, ◌+◌, ◌*◌, ◌/◌, ◌<◌, ◌≤◌, length, get_or, set, replicate};
 ghost use Rattle.network.specs.Faults.{Sound};
 ghost use Rattle.neighbours.specs.Near.{Near, Bound};
@@ -8,7 +10,7 @@ use kinds::{Place, Station};
 use network::line_at;
 
 // Where a neighbour stands in the table.
-#[derive(Drop)]
+#[derive(Clone, Copy)]
 struct Entry(u16);
 
 // No line end is counted.

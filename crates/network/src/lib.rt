@@ -1,4 +1,6 @@
 // The line list of a network: a line and its rank, and the judge of its ends.
+#![tactic(auto)]
+
 ghost use Rattle.std.specs.Prelude.{◌≡◌, ◌/◌, ◌<◌, length, get_or};
 ghost use Rattle.kinds.specs.Answers.{judged_answer};
 ghost use Rattle.kinds.specs.Refusals.{list_number};
@@ -8,7 +10,7 @@ ghost use Rattle.network.specs.Judging.{ends_judged};
 use kinds::{Judged, LineList, Place, Refusal, Round, Station};
 
 // A line: its two ends, as written.
-#[derive(Drop)]
+#[derive(Clone, Copy)]
 pub struct Line {
     pub one: Station,
     pub two: Station,

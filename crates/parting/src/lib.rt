@@ -1,4 +1,6 @@
 // What is parted where the stations of a small set are taken away: the lowest remaining station from the lowest not joined to it.
+#![tactic(auto)]
+
 ghost use Rattle.std.specs.Prelude.{◌≡◌, List, [], ◌∷◌, ℕ, ◌≤◌, ◌<◌, length};
 ghost use Rattle.laws.specs.Fold.{lowest};
 ghost use Rattle.network.specs.Faults.{Sound};
@@ -11,7 +13,7 @@ use kinds::Station;
 use pieces::find_pieces;
 
 // The stations of a weak spot, at most two, the lower first.
-#[derive(Drop)]
+#[derive(Clone, Copy)]
 pub enum Spot {
     Empty,
     One(Station),
@@ -19,7 +21,7 @@ pub enum Spot {
 }
 
 // A weak spot: without its stations, station one is not joined to station two.
-#[derive(Drop)]
+#[derive(Clone, Copy)]
 pub struct WeakSpot {
     pub spot: Spot,
     pub one: Station,
@@ -27,14 +29,14 @@ pub struct WeakSpot {
 }
 
 // What is found of a network at a level.
-#[derive(Drop)]
+#[derive(Clone, Copy)]
 pub enum Found {
     Stands,
     Weak(WeakSpot),
 }
 
 // What is parted where some stations are taken away: nothing, or one station from another.
-#[derive(Drop)]
+#[derive(Clone, Copy)]
 enum Parted {
     Whole,
     Between(Station, Station),

@@ -1,4 +1,6 @@
 // The pieces of a network when stations are taken away: which of the others are joined to each other.
+#![tactic(auto)]
+
 ghost use Rattle.std.specs.Prelude.{◌≡◌, List, ℕ, ◌/◌, ◌<◌, ◌≤◌, eqb, length, get_or, set};
 ghost use Rattle.laws.specs.Fold.{up_to};
 ghost use Rattle.network.specs.Faults.{Sound};

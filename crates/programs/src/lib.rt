@@ -1,4 +1,6 @@
 // What the programs write, from the bytes of a file: so that a program only reads and writes.
+#![tactic(auto)]
+
 ghost use Rattle.std.specs.Prelude.{◌≡◌, false, ◌/◌, ◌≤◌, length};
 ghost use Rattle.kinds.specs.Answers.{Answer.given};
 ghost use Rattle.reading.specs.Reading.{file_read};
@@ -19,7 +21,7 @@ use standing::write_standing;
 use weakness::{Searched, find_weak_spot};
 
 // The programs: which lines are kept, and whether the network stands.
-#[derive(Drop)]
+#[derive(Clone, Copy)]
 enum Program {
     Keep,
     Weak,

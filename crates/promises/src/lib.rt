@@ -1,1 +1,2 @@
 // What Tapuhzel promises, and that it holds: definitions and theorems alone.
+#![tactic(auto)]

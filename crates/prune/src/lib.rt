@@ -1,4 +1,6 @@
 // Pruning: k rounds of the scan rule, over the caller's lent buffers.
+#![tactic(auto)]
+
 ghost use Rattle.std.specs.Prelude.{◌≡◌, ◌*◌, ◌≤◌, ◌<◌, length};
 ghost use Rattle.kept.specs.Kept.{kept_count};
 ghost use Rattle.scan.specs.Asked.{Laid, Room};
@@ -13,7 +15,7 @@ use ranks::{clear, one_round};
 use request::judge_request;
 
 // What pruning says: how many lines are kept, or why the input is refused.
-#[derive(Drop)]
+#[derive(Clone, Copy)]
 pub enum Pruned {
     Kept(usize),
     Refused(Refusal),

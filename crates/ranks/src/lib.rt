@@ -1,4 +1,6 @@
 // The rounds of the scan rule for the ranks alone, and what all rounds share: lines put in play, and one round after some others.
+#![tactic(auto)]
+
 ghost use Rattle.std.specs.Prelude.{◌≡◌, false, ◌+◌, ◌/◌, ◌<◌, length, get_or, replicate};
 ghost use Rattle.request.specs.Requests.{Request};
 ghost use Rattle.kept.specs.Kept.{kept_count};

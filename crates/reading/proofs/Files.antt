@@ -12,7 +12,7 @@ use lib.ListN.{length}
 use lib.Dec.{ltb, eqb}
 use Rattle.kinds.specs.Answers.{Answer, Answer.given, Answer.refused, refuse_if, is_refused, ◌and_then◌}
 use Rattle.kinds.proofs.Answers.{then_given, passed}
-use Rattle.reading.specs.Numbers.{number_at, mark_nW, mark_lN, mark_rT, mark_eN}
+use Rattle.reading.specs.Numbers.{number_at, mark_nw, mark_ln, mark_rt, mark_en}
 use Rattle.reading.specs.Reading.{Facts, offset_after, length_here, record_judged, record_after, end_read, by_mark, records_read, file_read}
 use Rattle.reading.specs.Files.{Formed}
 use Rattle.reading.specs.declared.Order.TheVariants.{First}
@@ -21,25 +21,25 @@ use Rattle.reading.proofs.Records.{whole_record, first_whole, Kind, Kind.line, K
 module _ (bytes : List ℕ) where
   -- NW, m LN and s RT records were seen, each in its place.
   record Seen (m s : ℕ) : Type 0 where
-    first : number_at bytes 0 ≡ mark_nW
+    first : number_at bytes 0 ≡ mark_nw
     few_lines : m ≤ 8192
     few_starts : s ≤ 16
-    line_marks : (p : ℕ) → p < m → number_at bytes (offset_after p 0) ≡ mark_lN
-    start_marks : (q : ℕ) → q < s → number_at bytes (offset_after m q) ≡ mark_rT
+    line_marks : (p : ℕ) → p < m → number_at bytes (offset_after p 0) ≡ mark_ln
+    start_marks : (q : ℕ) → q < s → number_at bytes (offset_after m q) ≡ mark_rt
 
-  seen_line : (m s mark : ℕ) → Seen m s → Next bytes m s mark → s ≡ 0 → mark ≡ mark_lN → Seen (m + 1) s
+  seen_line : (m s mark : ℕ) → Seen m s → Next bytes m s mark → s ≡ 0 → mark ≡ mark_ln → Seen (m + 1) s
   seen_line m s mark seen next z e =
       let few = next.few_lines e in
       record {
         first = seen.first;
         few_lines = omega (arith, seen.few_lines);
         few_starts = seen.few_starts;
-        line_marks = below_more (λ (p : ℕ). number_at bytes (offset_after p 0) ≡ mark_lN) m seen.line_marks
-            (subst (λ (x : ℕ). number_at bytes (offset_after m x) ≡ mark_lN) z (next.is ∙ e));
+        line_marks = below_more (λ (p : ℕ). number_at bytes (offset_after p 0) ≡ mark_ln) m seen.line_marks
+            (subst (λ (x : ℕ). number_at bytes (offset_after m x) ≡ mark_ln) z (next.is ∙ e));
         start_marks = λ q l. absurd (omega arith);
       }
 
-  seen_start : (m s mark : ℕ) → Seen m s → Next bytes m s mark → mark ≡ mark_rT → Seen m (s + 1)
+  seen_start : (m s mark : ℕ) → Seen m s → Next bytes m s mark → mark ≡ mark_rt → Seen m (s + 1)
   seen_start m s mark seen next e =
       let few = next.few_starts e in
       record {
@@ -47,10 +47,10 @@ module _ (bytes : List ℕ) where
         few_lines = seen.few_lines;
         few_starts = omega (arith, seen.few_starts);
         line_marks = seen.line_marks;
-        start_marks = below_more (λ (q : ℕ). number_at bytes (offset_after m q) ≡ mark_rT) s seen.start_marks (next.is ∙ e);
+        start_marks = below_more (λ (q : ℕ). number_at bytes (offset_after m q) ≡ mark_rt) s seen.start_marks (next.is ∙ e);
       }
 
-  end_formed : (facts : Facts) (m s mark : ℕ) → Seen m s → Next bytes m s mark → mark ≡ mark_eN → offset_after m s + 4 ≤ length bytes
+  end_formed : (facts : Facts) (m s mark : ℕ) → Seen m s → Next bytes m s mark → mark ≡ mark_en → offset_after m s + 4 ≤ length bytes
       → end_read bytes m s ≡ given facts → Formed bytes facts
   unfolding end_read
   end_formed facts m s mark seen next e h a =
@@ -131,13 +131,13 @@ module _ (bytes : List ℕ) (facts : Facts) (formed : Formed bytes facts) where
           → records_read bytes m s (suc left) ≡ given facts
       go (yes l) d ihl ihs =
           let z = none l in
-          let e : record_after bytes m s ≡ given mark_lN =
-          subst (λ (x : ℕ). record_after bytes m x ≡ given mark_lN) (sym z)
+          let e : record_after bytes m s ≡ given mark_ln =
+          subst (λ (x : ℕ). record_after bytes m x ≡ given mark_ln) (sym z)
           (line_next bytes m (formed.line_marks m l) (omega (arith, formed.few_lines)) (omega (arith, formed.size))) in
           read_line bytes m s (suc left) left refl e ∙ ihl l
       go (no n) (yes l) ihl ihs =
           let all : facts.lines ≡ m = omega arith in
-          let e = start_next bytes m s (subst (λ (x : ℕ). number_at bytes (offset_after x s) ≡ mark_rT) all (formed.start_marks s l))
+          let e = start_next bytes m s (subst (λ (x : ℕ). number_at bytes (offset_after x s) ≡ mark_rt) all (formed.start_marks s l))
           (omega (arith, formed.few_starts)) (omega (arith, formed.size)) in
           read_start bytes m s (suc left) left refl e ∙ ihs n l
       go (no n) (no k) ihl ihs =

@@ -13,7 +13,7 @@ use Rattle.kinds.specs.Rows.{Row.because, NoneOf, ◌then_try◌.earlier, Follow
 use Rattle.kinds.proofs.Answers.{then_next, then_cases}
 use Rattle.kinds.proofs.Rows.{refusal_row, row_follows, follows_none, then_follows, given_follows}
 use Rattle.limits.proofs.Rows.{room_follows}
-use Rattle.reading.specs.Numbers.{number_at, mark_lN, mark_rT, mark_eN}
+use Rattle.reading.specs.Numbers.{number_at, mark_ln, mark_rt, mark_en}
 use Rattle.reading.specs.Reading.{offset_after, length_here, record_judged, order_after, record_counted, record_after, end_read, by_mark, records_read, file_read, read_answer}
 use Rattle.reading.specs.Rows.{record_rows, next_rows, end_rows, Reached, Reached.first as reached_first, Reached.line as reached_line, Reached.start as reached_start, FileRows, FileRows.first, FileRows.next, FileRows.end, read_rows}
 use Rattle.reading.specs.declared.Order.{Order}
@@ -34,8 +34,8 @@ module _ (bytes : List ℕ) where
   next_follows m s =
       let mark = number_at bytes (offset_after m s) in
       then_follows (record_follows (order_after s) (offset_after m s))
-      (then_follows (row_follows (and_both (eqb_exactly mark mark_lN) (eqb_exactly m 8192)))
-      (given_follows mark (row_follows (and_both (eqb_exactly mark mark_rT) (eqb_exactly s 16)))))
+      (then_follows (row_follows (and_both (eqb_exactly mark mark_ln) (eqb_exactly m 8192)))
+      (given_follows mark (row_follows (and_both (eqb_exactly mark mark_rt) (eqb_exactly s 16)))))
 
   end_follows : (m s : ℕ) → Follows (end_read bytes m s) (end_rows bytes m s)
   unfolding end_read
@@ -74,8 +74,8 @@ module _ (bytes : List ℕ) where
   reached_comes (reached_first none) =
       let passes = (follows_none (record_follows First 0)).1 none in
       (length bytes, omega arith, then_next (record_judged First bytes 0) (records_read bytes 0 0 (length bytes)) passes)
-  reached_comes (reached_line {m = m} {s = s} r none is) = let c = reached_comes r in (c.0 - 1, omega (arith, c.1), goes_on m s mark_lN c none is)
-  reached_comes (reached_start {m = m} {s = s} r none is) = let c = reached_comes r in (c.0 - 1, omega (arith, c.1), goes_on m s mark_rT c none is)
+  reached_comes (reached_line {m = m} {s = s} r none is) = let c = reached_comes r in (c.0 - 1, omega (arith, c.1), goes_on m s mark_ln c none is)
+  reached_comes (reached_start {m = m} {s = s} r none is) = let c = reached_comes r in (c.0 - 1, omega (arith, c.1), goes_on m s mark_rt c none is)
 
   module _ (number place list : ℕ) where
     -- What a row of the file says is refused.
@@ -85,7 +85,7 @@ module _ (bytes : List ℕ) where
     row_refused (next m s reached r) =
         let (left, h, e) = reached_comes reached in
         e ∙ (one_read left m s h ∙ rw ((next_follows m s).exactly.1 r))
-    row_refused (end m s reached none is r) = goes_on m s mark_eN (reached_comes reached) none is ∙ (end_follows m s).exactly.1 r
+    row_refused (end m s reached none is r) = goes_on m s mark_en (reached_comes reached) none is ∙ (end_follows m s).exactly.1 r
 
     -- What is refused is a row of the file: of the records after m LN and s RT, and of all.
     abbrev Rest : ℕ → ℕ → ℕ → Type 0

@@ -2,7 +2,7 @@
 -- Assumes nothing.
 use Rattle.std.specs.Prelude.{ℕ, ◌≡◌, List}
 use Rattle.kinds.specs.Answers.{Answer, Answer.given, refusal_answer}
-use Rattle.reading.specs.Numbers.{mark_lN, mark_rT, mark_eN}
+use Rattle.reading.specs.Numbers.{mark_ln, mark_rt, mark_en}
 use Rattle.reading.specs.Reading.{Facts, read_answer, lines_after, starts_after}
 use Rattle.reading.specs.declared.Found.{Found}
 use Rattle.reading.specs.declared.Record.{Record}
@@ -12,9 +12,9 @@ use Rattle.reading.specs.declared.Reading.TheVariants.{Network, Refused as Readi
 
 -- A record by its mark, or its refusal.
 abbrev pub record_answer : Record → Answer ℕ
-record_answer Line = given mark_lN
-record_answer Start = given mark_rT
-record_answer End = given mark_eN
+record_answer Line = given mark_ln
+record_answer Start = given mark_rt
+record_answer End = given mark_en
 record_answer (Refused r) = refusal_answer r
 
 -- What was found, as bare numbers.

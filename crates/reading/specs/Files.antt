@@ -2,7 +2,7 @@
 -- Assumes nothing.
 use Rattle.std.specs.Prelude.{ℕ, ◌+◌, ◌*◌, ◌/◌, ◌<◌, ◌≤◌, ◌≡◌, List, length, take}
 use Rattle.kinds.specs.Answers.{Answer.given}
-use Rattle.reading.specs.Numbers.{number_at, mark_nW, mark_lN, mark_rT, mark_eN}
+use Rattle.reading.specs.Numbers.{number_at, mark_nw, mark_ln, mark_rt, mark_en}
 use Rattle.reading.specs.Reading.{Facts, offset_after, file_read, line_numbers, start_numbers}
 use Rattle.reading.specs.Answers.{facts_of}
 use Rattle.reading.specs.declared.Found.{Found}
@@ -12,12 +12,12 @@ pub record Formed (bytes : List ℕ) (facts : Facts) : Type 0 where
   pub size : length bytes ≡ offset_after facts.lines facts.starts + 4
   pub few_lines : facts.lines ≤ 8192
   pub few_starts : facts.starts ≤ 16
-  pub first : number_at bytes 0 ≡ mark_nW
+  pub first : number_at bytes 0 ≡ mark_nw
   pub is_stations : number_at bytes 2 ≡ facts.stations
   pub is_level : number_at bytes 4 ≡ facts.level
-  pub line_marks : (p : ℕ) → p < facts.lines → number_at bytes (offset_after p 0) ≡ mark_lN
-  pub start_marks : (q : ℕ) → q < facts.starts → number_at bytes (offset_after facts.lines q) ≡ mark_rT
-  pub end_mark : number_at bytes (offset_after facts.lines facts.starts) ≡ mark_eN
+  pub line_marks : (p : ℕ) → p < facts.lines → number_at bytes (offset_after p 0) ≡ mark_ln
+  pub start_marks : (q : ℕ) → q < facts.starts → number_at bytes (offset_after facts.lines q) ≡ mark_rt
+  pub end_mark : number_at bytes (offset_after facts.lines facts.starts) ≡ mark_en
   pub end_count : number_at bytes (offset_after facts.lines facts.starts + 2) ≡ facts.lines
 
 -- What is found in the file of the network of n stations, level k, a line list and starts; and the same as bare facts.

@@ -11,17 +11,17 @@ abbrev pub number_bytes : ℕ → List ℕ
 number_bytes number = number % 256 ∷ number / 256 ∷ []
 
 -- NW, the bytes 78 and 87.
-abbrev pub mark_nW : ℕ
-mark_nW = 22350
+abbrev pub mark_nw : ℕ
+mark_nw = 22350
 
 -- LN, the bytes 76 and 78.
-abbrev pub mark_lN : ℕ
-mark_lN = 20044
+abbrev pub mark_ln : ℕ
+mark_ln = 20044
 
 -- RT, the bytes 82 and 84.
-abbrev pub mark_rT : ℕ
-mark_rT = 21586
+abbrev pub mark_rt : ℕ
+mark_rt = 21586
 
 -- EN, the bytes 69 and 78.
-abbrev pub mark_eN : ℕ
-mark_eN = 20037
+abbrev pub mark_en : ℕ
+mark_en = 20037

@@ -4,7 +4,7 @@ use Rattle.std.specs.Prelude.{ℕ, zero, suc, ◌+◌, ◌*◌, not, ◌&&◌, �
 use Rattle.laws.specs.Fold.{pick}
 use Rattle.kinds.specs.Answers.{Answer, Answer.given, Answer.refused, refuse_if, ◌and_then◌}
 use Rattle.limits.specs.Limits.{room_judged}
-use Rattle.reading.specs.Numbers.{number_at, mark_nW, mark_lN, mark_rT, mark_eN}
+use Rattle.reading.specs.Numbers.{number_at, mark_nw, mark_ln, mark_rt, mark_en}
 use Rattle.reading.specs.Parts.{gathered, placed}
 use Rattle.reading.specs.declared.Order.{Order}
 use Rattle.reading.specs.declared.Order.TheVariants.{First, Lines, Starts}
@@ -22,9 +22,9 @@ offset_after m s = 6 + 6 * m + 4 * s
 
 -- "The mark decides a record's length: NW and LN 6 bytes, RT and EN 4". Nothing for a mark that the order does not allow here.
 unfoldable pub length_here : Order → ℕ → ℕ
-length_here First mark = pick (eqb mark mark_nW) 6 0
-length_here Lines mark = pick (eqb mark mark_lN) 6 (pick (eqb mark mark_rT || eqb mark mark_eN) 4 0)
-length_here Starts mark = pick (eqb mark mark_rT || eqb mark mark_eN) 4 0
+length_here First mark = pick (eqb mark mark_nw) 6 0
+length_here Lines mark = pick (eqb mark mark_ln) 6 (pick (eqb mark mark_rt || eqb mark mark_en) 4 0)
+length_here Starts mark = pick (eqb mark mark_rt || eqb mark mark_en) 4 0
 
 -- "Fewer than two bytes left is 21, a wrong mark 20, a short body 21".
 unfoldable pub record_judged : Order → List ℕ → ℕ → Answer (Unit {0})
@@ -41,8 +41,8 @@ order_after (suc s) = Starts
 -- "The 8,193rd LN is 2, the 17th RT is 4, each when its record is whole": of the record with this mark after m LN and s RT.
 unfoldable pub record_counted : ℕ → ℕ → ℕ → Answer ℕ
 record_counted mark m s =
-    refuse_if (eqb mark mark_lN && eqb m 8192) 2 (offset_after m s) 3
-    and_then refuse_if (eqb mark mark_rT && eqb s 16) 4 (offset_after m s) 3
+    refuse_if (eqb mark mark_ln && eqb m 8192) 2 (offset_after m s) 3
+    and_then refuse_if (eqb mark mark_rt && eqb s 16) 4 (offset_after m s) 3
     and_then given mark
 
 -- The mark of the record after m LN and s RT.
@@ -59,7 +59,7 @@ end_read bytes m s =
 -- By the mark of the next record: a refusal is the answer, else what is said after an LN, after an RT, or at EN.
 unfoldable pub by_mark : Answer ℕ → Answer Facts → Answer Facts → Answer Facts → Answer Facts
 by_mark (refused number place list) line start end = refused number place list
-by_mark (given mark) line start end = pick (eqb mark mark_lN) line (pick (eqb mark mark_rT) start end)
+by_mark (given mark) line start end = pick (eqb mark mark_ln) line (pick (eqb mark mark_rt) start end)
 
 -- The records after m LN and s RT, taken in order. `left` bounds how many; with as many as there are bytes, the file ends first.
 unfoldable pub records_read : List ℕ → ℕ → ℕ → ℕ → Answer Facts

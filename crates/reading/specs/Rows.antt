@@ -3,7 +3,7 @@
 use Rattle.std.specs.Prelude.{ℕ, ◌+◌, ◌<◌, ◌≡◌, ◌≢◌, ◌⊎◌, List, length}
 use Rattle.kinds.specs.Rows.{Rows, Row, NoneOf, ◌then_try◌}
 use Rattle.limits.specs.Rows.{room_row}
-use Rattle.reading.specs.Numbers.{number_at, mark_lN, mark_rT, mark_eN}
+use Rattle.reading.specs.Numbers.{number_at, mark_ln, mark_rt, mark_en}
 use Rattle.reading.specs.Reading.{offset_after, order_after, length_here}
 use Rattle.reading.specs.declared.Order.{Order}
 use Rattle.reading.specs.declared.Order.TheVariants.{First}
@@ -18,8 +18,8 @@ record_rows order bytes offset =
 -- "The 8,193rd LN is 2, the 17th RT is 4, each when its record is whole": of the record after m LN and s RT.
 abbrev pub count_rows : List ℕ → ℕ → ℕ → Rows
 count_rows bytes m s =
-    Row ((number_at bytes (offset_after m s) ≡ mark_lN) × (m ≡ 8192)) 2 (offset_after m s) 3
-    then_try Row ((number_at bytes (offset_after m s) ≡ mark_rT) × (s ≡ 16)) 4 (offset_after m s) 3
+    Row ((number_at bytes (offset_after m s) ≡ mark_ln) × (m ≡ 8192)) 2 (offset_after m s) 3
+    then_try Row ((number_at bytes (offset_after m s) ≡ mark_rt) × (s ≡ 16)) 4 (offset_after m s) 3
 
 abbrev pub next_rows : List ℕ → ℕ → ℕ → Rows
 next_rows bytes m s = record_rows (order_after s) bytes (offset_after m s) then_try count_rows bytes m s
@@ -27,8 +27,8 @@ next_rows bytes m s = record_rows (order_after s) bytes (offset_after m s) then_
 -- NW, m LN and s RT were read, none of them refused: the next record is at offset 6 + 6 m + 4 s.
 pub data Reached (bytes : List ℕ) : (m s : ℕ) → Type 0 where
   first : NoneOf (record_rows First bytes 0) → Reached bytes 0 0
-  line : {m s : ℕ} → Reached bytes m s → NoneOf (next_rows bytes m s) → number_at bytes (offset_after m s) ≡ mark_lN → Reached bytes (m + 1) s
-  start : {m s : ℕ} → Reached bytes m s → NoneOf (next_rows bytes m s) → number_at bytes (offset_after m s) ≡ mark_rT → Reached bytes m (s + 1)
+  line : {m s : ℕ} → Reached bytes m s → NoneOf (next_rows bytes m s) → number_at bytes (offset_after m s) ≡ mark_ln → Reached bytes (m + 1) s
+  start : {m s : ℕ} → Reached bytes m s → NoneOf (next_rows bytes m s) → number_at bytes (offset_after m s) ≡ mark_rt → Reached bytes m (s + 1)
 
 -- At EN after m LN and s RT: 22, its count is not the number of LN records; then 23, bytes follow it.
 abbrev pub end_rows : List ℕ → ℕ → ℕ → Rows
@@ -40,7 +40,7 @@ end_rows bytes m s =
 pub data FileRows (bytes : List ℕ) (number place list : ℕ) : Type 0 where
   first : record_rows First bytes 0 number place list → FileRows bytes number place list
   next : (m s : ℕ) → Reached bytes m s → next_rows bytes m s number place list → FileRows bytes number place list
-  end : (m s : ℕ) → Reached bytes m s → NoneOf (next_rows bytes m s) → number_at bytes (offset_after m s) ≡ mark_eN → end_rows bytes m s number place list → FileRows bytes number place list
+  end : (m s : ℕ) → Reached bytes m s → NoneOf (next_rows bytes m s) → number_at bytes (offset_after m s) ≡ mark_en → end_rows bytes m s number place list → FileRows bytes number place list
 
 -- "Reading first asks room for 16,384 line numbers and 16 starts (5), then takes records in order".
 abbrev pub read_rows : (bytes lines starts : List ℕ) → Rows

@@ -1,4 +1,6 @@
 // Reading a network file into lent buffers.
+#![tactic(auto)]
+
 ghost use Rattle.std.specs.Prelude.{◌≡◌, ◌≢◌, ◌+◌, ◌*◌, ◌<◌, ◌≤◌, [], ◌∷◌, length};
 ghost use Rattle.kinds.specs.Answers.{judged_answer};
 ghost use Rattle.reading.specs.Numbers.{number_at};
@@ -9,7 +11,7 @@ ghost use Rattle.reading.specs.Answers.{record_answer, reading_answer, ReadAllow
 use kinds::{Judged, Level, Offset, Place, Position, Refusal};
 
 // Where in the file's order a record stands: before all others, before any RT, or after one.
-#[derive(Drop)]
+#[derive(Clone, Copy)]
 pub enum Order {
     First,
     Lines,
@@ -17,14 +19,14 @@ pub enum Order {
 }
 
 // How many LN and RT records stand before a record.
-#[derive(Drop)]
+#[derive(Clone, Copy)]
 pub struct Counts {
     pub lines: usize,
     pub starts: usize,
 }
 
 // A record after NW, or why there is none.
-#[derive(Drop)]
+#[derive(Clone, Copy)]
 pub enum Record {
     Line,
     Start,
@@ -33,7 +35,7 @@ pub enum Record {
 }
 
 // What reading found: the number of stations, the level, and how many lines and starts.
-#[derive(Drop)]
+#[derive(Clone, Copy)]
 pub struct Found {
     pub stations: usize,
     pub level: Level,
@@ -42,7 +44,7 @@ pub struct Found {
 }
 
 // What reading answers: a network, which it does not judge, or the first refusal that holds.
-#[derive(Drop)]
+#[derive(Clone, Copy)]
 pub enum Reading {
     Network(Found),
     Refused(Refusal),

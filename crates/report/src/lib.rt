@@ -1,4 +1,6 @@
 // The text that the programs write: of a pruned network, or of a refused input; and the words that every text is put together from.
+#![tactic(auto)]
+
 ghost use Rattle.std.specs.Prelude.{◌+◌, ◌*◌, ◌/◌, ◌≤◌, ◌<◌, ◌≡◌, [], ◌∷◌, length};
 ghost use Rattle.kinds.specs.Refusals.{number_of, place_of};
 ghost use Rattle.report.specs.Answers.{keep_short, refused_short, written_answer, written_over};
@@ -9,7 +11,7 @@ use kinds::{Level, Place, Refusal, RefusalPlace, Round, Station, number_of, plac
 use network::{Line, line_at, rank_at};
 
 // What writing says: how many bytes were written, or that the buffer has too little room and is as it was.
-#[derive(Drop)]
+#[derive(Clone, Copy)]
 pub enum Written {
     Bytes(usize),
     TooShort,

@@ -1,4 +1,6 @@
 // What an owner asks for: a network, a level and a starting station for each round; and its judge.
+#![tactic(auto)]
+
 ghost use Rattle.std.specs.Prelude.{◌≡◌, ◌<◌, ◌≤◌, length};
 ghost use Rattle.kinds.specs.Answers.{judged_answer};
 ghost use Rattle.request.specs.Judging.{start_count_judged, start_judged, starts_judged, sizes_judged, request_judged};

@@ -1,4 +1,6 @@
 // One round of the check: B, then stations in the round's order, C before D, then E by place.
+#![tactic(auto)]
+
 ghost use Rattle.std.specs.Prelude.{◌≡◌, ℕ, ◌/◌, ◌≤◌, ◌<◌, length, get_or};
 ghost use Rattle.network.specs.Faults.{Sound};
 ghost use Rattle.network.specs.Orders.{EachOnce};

@@ -1,1 +1,2 @@
 // The scan rule and its laws: definitions and theorems alone.
+#![tactic(auto)]

@@ -1,4 +1,6 @@
 // One round of the scan rule, over the caller's lent buffers. Marked and scanned stations are sets in words, a bit for each station.
+#![tactic(auto)]
+
 ghost use Rattle.std.specs.Prelude.{◌≡◌, List, [], ◌∷◌, ◌++◌, ℕ, ◌*◌, ◌≤◌, ◌<◌, length};
 ghost use Rattle.bits.specs.Sets.{members};
 ghost use Rattle.rule.specs.Rule.{marks, take_to, take_line, scan_station, next_station, scanning, scan_next, all_scanned, one_round};

@@ -1,4 +1,6 @@
 // What is seen of a round's lines, in tables by position: each station's earliest earlier neighbour in play, and the trees.
+#![tactic(auto)]
+
 ghost use Rattle.std.specs.Prelude.{◌≡◌, ℕ, ◌/◌, ◌≤◌, ◌<◌, length, get_or};
 ghost use Rattle.network.specs.Faults.{Sound};
 ghost use Rattle.plans.specs.Checking.{in_play, of_rank};

@@ -1,4 +1,6 @@
 // What the program weak writes: a header, then one row that tells whether the network stands.
+#![tactic(auto)]
+
 ghost use Rattle.std.specs.Prelude.{◌≡◌, ◌+◌, ◌≤◌, length};
 ghost use Rattle.report.specs.Answers.{written_answer, written_over};
 ghost use Rattle.report.specs.Writing.{Puts};

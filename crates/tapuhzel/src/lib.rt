@@ -1,4 +1,6 @@
 // The C face: the public routines on numbers and lent slices. `codes` says how an answer is encoded, and include/tapuhzel.h says it for C.
+#![tactic(auto)]
+
 mod verdict; // verdict.rt: the check of forests
 mod spot; // spot.rt: weak spots
 mod file; // file.rt: the network file, and the texts of the programs

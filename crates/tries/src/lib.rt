@@ -1,4 +1,6 @@
 // The weak spot of a list: each set of fewer stations than the level, fewest first, by one pass for all that one station more makes.
+#![tactic(auto)]
+
 ghost use Rattle.std.specs.Prelude.{◌≡◌, List, [], ◌∷◌, false, ℕ, ◌+◌, ◌≤◌, ◌<◌, length};
 ghost use Rattle.network.specs.Faults.{Sound};
 ghost use Rattle.pieces.specs.Away.{Unmarked};

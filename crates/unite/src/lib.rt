@@ -1,4 +1,6 @@
 // The union of two line lists.
+#![tactic(auto)]
+
 ghost use Rattle.std.specs.Prelude.{◌≡◌, true, List, ◌++◌, ℕ, ◌+◌, ◌*◌, ◌/◌, ◌≤◌, ◌<◌, length, take, drop};
 ghost use Rattle.laws.specs.Fold.{up_to};
 ghost use Rattle.laws.specs.Count.{count};
@@ -17,7 +19,7 @@ use limits::{judge_length, judge_stations};
 use network::line_at;
 
 // What uniting says: how many lines it wrote, or why it refuses.
-#[derive(Drop)]
+#[derive(Clone, Copy)]
 pub enum United {
     Lines(usize),
     Refused(Refusal),

@@ -1,4 +1,6 @@
 // Reads a network file on standard input, and writes whether the network stands or its weak spot, or why the file is refused.
+#![tactic(auto)]
+
 use console::write_front;
 use libc::STDIN_FILENO;
 use report::Written;

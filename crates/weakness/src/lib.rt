@@ -1,4 +1,6 @@
 // Weak spots: the fewest stations that, taken away, leave two others not joined.
+#![tactic(auto)]
+
 ghost use Rattle.std.specs.Prelude.{◌≡◌, ◌++◌, ◌/◌, ◌≤◌, length, drop};
 ghost use Rattle.kept.specs.Kept.{kept_count};
 ghost use Rattle.kinds.specs.Answers.{judged_answer};
@@ -18,7 +20,7 @@ use ranks::prune_ranks;
 use tries::search;
 
 // What the search for a weak spot says: what it found, or why the input is refused.
-#[derive(Drop)]
+#[derive(Clone, Copy)]
 pub enum Searched {
     Decided(Found),
     Refused(Refusal),

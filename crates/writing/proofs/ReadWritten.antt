@@ -10,7 +10,7 @@ use lib.Seq.{get_or-append-add}
 use Rattle.kinds.specs.Answers.{Answer.given}
 use Rattle.network.specs.Lines.{end_one, end_two}
 use Rattle.request.specs.Requests.{Request}
-use Rattle.reading.specs.Numbers.{number_at, mark_nW, mark_eN}
+use Rattle.reading.specs.Numbers.{number_at, mark_nw, mark_en}
 use Rattle.reading.specs.Parts.{gathered}
 use Rattle.reading.specs.Reading.{offset_after, line_ends, line_numbers, start_station, start_numbers, file_read}
 use Rattle.writing.specs.Writing.{two_record, one_record, line_record, start_record, file_bytes, file_length}
@@ -43,26 +43,26 @@ number_gathered f size same count j i at h l e =
 module _ (n k : ℕ) (lines starts : List ℕ) where
   pub length_file : length (file_bytes n k lines starts) ≡ file_length lines starts
   unfolding file_bytes
-  length_file = omega (arith, length-append (up_to_starts n k lines starts) (one_record mark_eN (length lines / 2)), length_to_starts n k lines starts)
+  length_file = omega (arith, length-append (up_to_starts n k lines starts) (one_record mark_en (length lines / 2)), length_to_starts n k lines starts)
 
   -- before EN, and before the RT records
   before_end : (at : ℕ) → at + 1 < offset_after (length lines / 2) (length starts) → number_at (file_bytes n k lines starts) at ≡ number_at (up_to_starts n k lines starts) at
   unfolding file_bytes
-  before_end at h = number_left (up_to_starts n k lines starts) (one_record mark_eN (length lines / 2)) at (omega (arith, length_to_starts n k lines starts))
+  before_end at h = number_left (up_to_starts n k lines starts) (one_record mark_en (length lines / 2)) at (omega (arith, length_to_starts n k lines starts))
 
   before_starts : (at : ℕ) → at + 1 < 6 + 6 * (length lines / 2) → number_at (file_bytes n k lines starts) at ≡ number_at (up_to_lines n k lines starts) at
   before_starts at h =
       before_end at (omega arith)
       ∙ number_left (up_to_lines n k lines starts) (gathered (start_record starts) (length starts)) at (omega (arith, length_to_lines n k lines starts))
 
-  first_number : (i : ℕ) → i + 1 < 6 → number_at (file_bytes n k lines starts) i ≡ number_at (two_record mark_nW n k) i
-  first_number i l = before_starts i (omega arith) ∙ number_left (two_record mark_nW n k) (gathered (line_record lines) (length lines / 2)) i l
+  first_number : (i : ℕ) → i + 1 < 6 → number_at (file_bytes n k lines starts) i ≡ number_at (two_record mark_nw n k) i
+  first_number i l = before_starts i (omega arith) ∙ number_left (two_record mark_nw n k) (gathered (line_record lines) (length lines / 2)) i l
 
   line_number : (p i at : ℕ) → p < length lines / 2 → i + 1 < 6 → 6 + (p * 6 + i) ≡ at → number_at (file_bytes n k lines starts) at ≡ number_at (line_record lines p) i
   line_number p i at h l e =
       let m = length lines / 2 in
       before_starts at (omega arith)
-      ∙ (number_right (two_record mark_nW n k) (gathered (line_record lines) m) 6 at (p * 6 + i) refl e
+      ∙ (number_right (two_record mark_nw n k) (gathered (line_record lines) m) 6 at (p * 6 + i) refl e
       ∙ number_gathered (line_record lines) 6 (λ j. refl) m p i (p * 6 + i) h l refl)
 
   start_number : (q i at : ℕ) → q < length starts → i + 1 < 4 → 6 + 6 * (length lines / 2) + (q * 4 + i) ≡ at
@@ -74,11 +74,11 @@ module _ (n k : ℕ) (lines starts : List ℕ) where
       ∙ (number_right (up_to_lines n k lines starts) (gathered (start_record starts) s) begin at (q * 4 + i) (length_to_lines n k lines starts) e
       ∙ number_gathered (start_record starts) 4 (λ j. refl) s q i (q * 4 + i) h l refl)
 
-  end_number : (i at : ℕ) → offset_after (length lines / 2) (length starts) + i ≡ at → number_at (file_bytes n k lines starts) at ≡ number_at (one_record mark_eN (length lines / 2)) i
+  end_number : (i at : ℕ) → offset_after (length lines / 2) (length starts) + i ≡ at → number_at (file_bytes n k lines starts) at ≡ number_at (one_record mark_en (length lines / 2)) i
   unfolding file_bytes
   end_number i at e =
       let m = length lines / 2 in
-      number_right (up_to_starts n k lines starts) (one_record mark_eN m) (offset_after m (length starts)) at i (length_to_starts n k lines starts) e
+      number_right (up_to_starts n k lines starts) (one_record mark_en m) (offset_after m (length starts)) at i (length_to_starts n k lines starts) e
 
   written_formed : (short : Bool) → Request n k lines starts short → Formed (file_bytes n k lines starts) (network_facts n k lines starts)
   written_formed short request =

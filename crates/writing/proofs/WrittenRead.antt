@@ -7,7 +7,7 @@ use native.Mathlib.Omega.{arith}
 use lib.ListN.{length, get_or}
 use Rattle.kinds.specs.Answers.{Answer.given}
 use Rattle.network.specs.Lines.{end_one, end_two}
-use Rattle.reading.specs.Numbers.{number_at, number_bytes, mark_nW, mark_lN, mark_rT, mark_eN}
+use Rattle.reading.specs.Numbers.{number_at, number_bytes, mark_nw, mark_ln, mark_rt, mark_en}
 use Rattle.reading.specs.Parts.{gathered}
 use Rattle.reading.specs.Reading.{Facts, offset_after, line_ends, line_numbers, start_station, start_numbers, file_read}
 use Rattle.writing.specs.Writing.{two_record, one_record, line_record, start_record, file_bytes}
@@ -55,7 +55,7 @@ module _ (bytes : List ℕ) (small : (i : ℕ) → i < length bytes → get_or b
         let m = facts.lines in
         let lines = line_numbers bytes m in
         gathered_part (line_record lines) 6 bytes 6 m
-        (λ p h. two_part (6 + p * 6) mark_lN (end_one lines p) (end_two lines p)
+        (λ p h. two_part (6 + p * 6) mark_ln (end_one lines p) (end_two lines p)
         (ap (number_at bytes) (omega arith) ∙ formed.line_marks p h)
         (ap (number_at bytes) (omega arith) ∙ sym (end_one_lem bytes m p h))
         (ap (number_at bytes) (omega arith) ∙ sym (end_two_lem bytes m p h))
@@ -67,7 +67,7 @@ module _ (bytes : List ℕ) (small : (i : ℕ) → i < length bytes → get_or b
         let s = facts.starts in
         let starts = start_numbers bytes m s in
         gathered_part (start_record starts) 4 bytes (6 + 6 * m) s
-        (λ q h. one_part (6 + 6 * m + q * 4) mark_rT (get_or starts q 0)
+        (λ q h. one_part (6 + 6 * m + q * 4) mark_rt (get_or starts q 0)
         (ap (number_at bytes) (omega arith) ∙ formed.start_marks q h)
         (ap (number_at bytes) (omega arith) ∙ sym (start_at bytes m s q h))
         (omega (arith, formed.size)))
@@ -81,13 +81,13 @@ module _ (bytes : List ℕ) (small : (i : ℕ) → i < length bytes → get_or b
         let starts = start_numbers bytes m s in
         let size = formed.size in
         let half : length lines / 2 ≡ m = omega (arith, length_lines bytes m) in
-        let first : two_record mark_nW facts.stations facts.level ≡ part bytes 0 6 =
-        two_part 0 mark_nW facts.stations facts.level formed.first formed.is_stations formed.is_level (omega arith) in
+        let first : two_record mark_nw facts.stations facts.level ≡ part bytes 0 6 =
+        two_part 0 mark_nw facts.stations facts.level formed.first formed.is_stations formed.is_level (omega arith) in
         let ends : gathered (line_record lines) (length lines / 2) ≡ part bytes 6 (m * 6) = ap (gathered (line_record lines)) half ∙ line_parts in
         let begins : gathered (start_record starts) (length starts) ≡ part bytes (6 + 6 * m) (s * 4) =
         ap (gathered (start_record starts)) (length_starts bytes m s) ∙ start_parts in
-        let last : one_record mark_eN (length lines / 2) ≡ part bytes (offset_after m s) 4 =
-        ap (one_record mark_eN) half ∙ one_part (offset_after m s) mark_eN m formed.end_mark formed.end_count (omega arith) in
+        let last : one_record mark_en (length lines / 2) ≡ part bytes (offset_after m s) 4 =
+        ap (one_record mark_en) half ∙ one_part (offset_after m s) mark_en m formed.end_mark formed.end_count (omega arith) in
         let upto_lines = ap₂ ◌++◌ first ends ∙ part_append bytes 0 6 (m * 6) 6 (6 + m * 6) refl refl in
         let upto_starts = ap₂ ◌++◌ upto_lines begins ∙ part_append bytes 0 (6 + m * 6) (s * 4) (6 + 6 * m) (6 + m * 6 + s * 4) (omega arith) refl in
         ap₂ ◌++◌ upto_starts last

@@ -4,7 +4,7 @@ use Rattle.std.specs.Prelude.{ℕ, ◌+◌, ◌/◌, List, ◌++◌, length, get
 use Rattle.kinds.specs.Answers.{Answer, Answer.given, Answer.refused, ◌and_then◌}
 use Rattle.network.specs.Lines.{end_one, end_two}
 use Rattle.request.specs.Judging.{request_judged}
-use Rattle.reading.specs.Numbers.{number_bytes, mark_nW, mark_lN, mark_rT, mark_eN}
+use Rattle.reading.specs.Numbers.{number_bytes, mark_nw, mark_ln, mark_rt, mark_en}
 use Rattle.reading.specs.Parts.{gathered, placed}
 use Rattle.reading.specs.Reading.{offset_after}
 
@@ -18,16 +18,16 @@ one_record mark a = number_bytes mark ++ number_bytes a
 
 -- The LN record of the line at place p.
 abbrev pub line_record : List ℕ → ℕ → List ℕ
-line_record lines p = two_record mark_lN (end_one lines p) (end_two lines p)
+line_record lines p = two_record mark_ln (end_one lines p) (end_two lines p)
 
 -- The RT record of the starting station at index q.
 abbrev pub start_record : List ℕ → ℕ → List ℕ
-start_record starts q = one_record mark_rT (get_or starts q 0)
+start_record starts q = one_record mark_rt (get_or starts q 0)
 
 -- The bytes of a network: NW (n, k), an LN for each line, an RT for each start, EN (count of LN).
 unfoldable pub file_bytes : ℕ → ℕ → List ℕ → List ℕ → List ℕ
 file_bytes n k lines starts =
-    ((two_record mark_nW n k ++ gathered (line_record lines) (length lines / 2)) ++ gathered (start_record starts) (length starts)) ++ one_record mark_eN (length lines / 2)
+    ((two_record mark_nw n k ++ gathered (line_record lines) (length lines / 2)) ++ gathered (start_record starts) (length starts)) ++ one_record mark_en (length lines / 2)
 
 -- How many bytes a network with these lists takes.
 abbrev pub file_length : List ℕ → List ℕ → ℕ

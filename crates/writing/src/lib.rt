@@ -1,4 +1,6 @@
 // Writing a network file: its records put into a byte buffer, one after the other.
+#![tactic(auto)]
+
 ghost use Rattle.std.specs.Prelude.{◌≡◌, ◌+◌, ◌*◌, ◌/◌, ◌≤◌, length, ltb};
 ghost use Rattle.reading.specs.Numbers.{number_bytes};
 ghost use Rattle.reading.specs.Parts.{gathered, placed};
@@ -11,7 +13,7 @@ use reading::Counts;
 use request::judge_request;
 
 // What writing answers: how many bytes it wrote, or the first refusal that holds.
-#[derive(Drop)]
+#[derive(Clone, Copy)]
 pub enum Writing {
     Bytes(usize),
     Refused(Refusal),

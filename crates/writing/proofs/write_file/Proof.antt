@@ -6,7 +6,7 @@ use borrow.Author.Rules.{rules}
 use lib.ListN.{length}
 use Rattle.reading.specs.Parts.{placed, gathered}
 use Rattle.writing.proofs.Written.{file_placed}
-use Rattle.reading.specs.Numbers.{mark_eN}
+use Rattle.reading.specs.Numbers.{mark_en}
 use Rattle.writing.specs.Writing.{one_record, line_record, start_record}
 use Rattle.reading.specs.Reading.{offset_after}
 use Rattle.writing.proofs.write_file.Statement.{statement}
@@ -62,7 +62,7 @@ returns c =
     let started = c.before.before.before.before.before.before.write-starts.ensures ∙ ap (λ (x : List ℕ). placed x (6 + 6 * m) begins) lined in (
       refl,
       c.before.before.put_one.ensures
-          ∙ (ap (λ (x : List ℕ). placed x (offset_after m s) (one_record mark_eN m)) started
+          ∙ (ap (λ (x : List ℕ). placed x (offset_after m s) (one_record mark_en m)) started
           ∙ file_placed a.n a.level.0 a.lines.now a.starts.now a.bytes.now),
     )
 

@@ -1,0 +1,10 @@
+-- `bits::lowest_out` meets its contract. The loop's invariant: every number of the words before i is in the set. The measure is count - i.
+-- Assumes nothing.
+use Prim.Native.Nat.{◌≤◌}
+use mathlib.Core.Bool.{not}
+use Rattle.bits.specs.Sets.{is_in}
+use Rattle.bits.proofs.Lowest.{NoneBefore}
+use Rattle.bits.proofs.lowest_out.Given as goal
+
+abbrev pub invariant-loop-i : goal.invariant-loop-i
+invariant-loop-i l = (l.i ≤ l.count) × NoneBefore (λ x. not (is_in l.words x)) l.i

@@ -1,0 +1,8 @@
+-- `neighbours::sum_counts` meets its contract. The loop's invariant: the counts below v are summed. The measure is n - v. Assumes nothing.
+use Prim.Native.Nat.{◌≤◌}
+use mathlib.Core.Path.{◌≡◌}
+use Rattle.neighbours.specs.Ranks.{Summed, below}
+use Rattle.neighbours.proofs.sum_counts.Given as goal
+
+abbrev pub invariant-loop-v : goal.invariant-loop-v
+invariant-loop-v l = Summed l.n l.lines l.v l.begins × (l.sum ≡ below l.lines l.v) × (l.v ≤ l.n)

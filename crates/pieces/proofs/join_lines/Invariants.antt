@@ -1,0 +1,14 @@
+-- `pieces::join_lines` meets its contract. The loop's invariant: the table leads to the definition's names after p lines. The measure is
+-- the number of lines left. Assumes nothing.
+use Prim.Native.Nat.{ℕ, ◌≤◌}
+use mathlib.Core.List.{List}
+use mathlib.Core.Path.{◌≡◌}
+use lib.ListN.{length}
+use Rattle.laws.specs.Fold.{up_to}
+use Rattle.pieces.specs.Pieces.{join_line}
+use Rattle.pieces.specs.Away.{is_gone}
+use Rattle.pieces.specs.Tables.{Leads}
+use Rattle.pieces.proofs.join_lines.Given as goal
+
+abbrev pub invariant-loop-p : goal.invariant-loop-p
+invariant-loop-p l = (l.p ≤ l.count) × (length l.pieces ≡ length l.initial.pieces) × ((names : List ℕ) → Leads names l.initial.pieces → Leads (up_to (join_line l.lines (is_gone l.gone)) names l.p) l.pieces)

@@ -1,0 +1,11 @@
+-- `pieces::set_alone` meets its contract. The loop's invariant: the first v entries are their own. The measure is the number of entries
+-- left. Assumes nothing.
+use Prim.Native.Nat.{◌≤◌}
+use mathlib.Core.List.{◌++◌}
+use mathlib.Core.Path.{◌≡◌}
+use lib.ListN.{length, drop}
+use Rattle.pieces.specs.Pieces.{alone}
+use Rattle.pieces.proofs.set_alone.Given as goal
+
+abbrev pub invariant-loop-v : goal.invariant-loop-v
+invariant-loop-v l = (l.v ≤ l.count) × (length l.pieces ≡ length l.initial.pieces) × (l.pieces ≡ alone l.v ++ drop l.v l.initial.pieces)

@@ -1,0 +1,28 @@
+-- `report::put_word` meets its contract. The loop's invariant: the first i bytes of the word are written, and the position is i further.
+-- The measure is the number of bytes left. Assumes nothing.
+use mathlib.Core.Path.{◌≡◌}
+use native.Mathlib.Nat.{add-zero}
+use native.Mathlib.Omega.{arith}
+use borrow.Author.Rules.{rules}
+use lib.ListN.{length}
+use lib.Seq.{take-length}
+use Rattle.report.proofs.Writing.{puts_none, puts_length, puts_more}
+use Rattle.report.proofs.put_word.Goals as goal
+
+pub loop-i-init : goal.loop-i-init
+loop-i-init c = (search rules, rw add-zero (puts_none c.args.text.now c.args.at (omega arith)))
+
+pub bounds-text-at : goal.bounds-text-at
+bounds-text-at c = omega (arith, puts_length c.loop-i.invariant.1)
+
+pub loop-i-preserved : goal.loop-i-preserved
+loop-i-preserved c = (omega arith, puts_more c.args.word.now c.args.at c.loop-i.i c.loop-i.invariant.1 (omega arith) (omega (arith, puts_length c.loop-i.invariant.1)))
+
+pub shape_of-text : goal.shape_of-text
+shape_of-text c = puts_length c.loop-i.invariant.1
+
+pub returns : goal.returns
+returns c =
+    let w = c.args.word.now in
+    let e : c.loop-i.i ≡ length w = omega arith in
+    record { put = rw (e, take-length w) at c.loop-i.invariant.1 }

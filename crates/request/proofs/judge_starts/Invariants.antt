@@ -1,0 +1,11 @@
+-- `request::judge_starts` meets its contract. The loop's invariant: what is left to judge from q on is the answer. The measure is the
+-- number of starts left. Assumes nothing.
+use Prim.Native.Nat.{◌-◌, ◌≤◌}
+use mathlib.Core.Path.{◌≡◌}
+use Rattle.laws.specs.Fold.{first_from}
+use Rattle.kinds.specs.Answers.{taken, is_refused}
+use Rattle.request.specs.Judging.{start_judged, starts_judged}
+use Rattle.request.proofs.judge_starts.Given as goal
+
+abbrev pub invariant-loop-q : goal.invariant-loop-q
+invariant-loop-q l = (l.q ≤ l.count) × (starts_judged l.n l.starts ≡ first_from is_refused (start_judged l.n l.starts) taken l.q (l.count - l.q))
