@@ -22,4 +22,4 @@ returns-else-s-eq16 c = record { «record» = rw (c.in-21586.is, ne_eqb _ _ c.if
 
 pub returns-in_default : goal.returns-in_default
 unfolding record_counted
-returns-in_default c = record { «record» = rw (c.requires.0 c.in_default-own.rest.0.1 c.in_default-own.rest.1) }
+returns-in_default c = record { «record» = rw (c.requires.0 c.in_default.in_default-own.rest.0.1 c.in_default.in_default-own.rest.1) }

@@ -55,6 +55,6 @@ returns-in-Starts-order-3 c = record { length = rw (c.in-Starts-order-3.is, c.in
 pub returns-in_default : goal.returns-in_default
 returns-in_default c =
     record {
-      length = (let n = c.in_default-own.rest in
+      length = (let n = c.in_default.in_default-own.rest in
           no_length c.args.order c.args.mark n.0.0.0.1 n.0.0.1 n.0.1 n.1);
     }

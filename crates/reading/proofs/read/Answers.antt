@@ -10,7 +10,7 @@ use Rattle.reading.specs.Answers.{facts_of, reading_answer}
 use Rattle.reading.proofs.Files.{read_formed}
 use Rattle.reading.proofs.Contents.{read_room}
 use Rattle.reading.proofs.read.Goals as goal
-use Rattle.reading.proofs.read.Goals.{In-Network-2}
+use Rattle.reading.proofs.read.Goals.{In-Network}
 
 pub returns-then-lines-lt16384 : goal.returns-then-lines-lt16384
 unfolding read_answer lines_after starts_after room_judged
@@ -24,19 +24,19 @@ returns-then-starts-lt16 c =
     record { allowed = record { answer = rw (l, e); new_lines = rw (l, e); new_starts = rw (l, e) } }
 
 -- what the bytes say, once a network was found
-found : (c : In-Network-2) → file_read c.args.bytes.now ≡ given (facts_of c.in-Network.found)
+found : (c : In-Network) → file_read c.args.bytes.now ≡ given (facts_of c.in-Network.found)
 found c = sym c.read_file-reading.ensures.answer ∙ ap reading_answer c.in-Network.is
 
 pub copy_network-requires : goal.copy_network-requires
 copy_network-requires c =
-    let f = read_formed c.args.bytes.now (facts_of c.in-Network.found) (found (goal.at.copy_network-requires c).In-Network-2) in
+    let f = read_formed c.args.bytes.now (facts_of c.in-Network.found) (found (goal.at.copy_network-requires c).In-Network) in
     (omega (arith, f.size), f.few_lines, f.few_starts, omega (arith, f.few_lines), omega (arith, f.few_starts))
 
 pub returns-in-Network : goal.returns-in-Network
 unfolding lines_after starts_after
 returns-in-Network c =
     let a = c.args in
-    let r = read_room a.bytes.now a.lines.now a.starts.now (omega arith) (omega arith) ∙ found (goal.at.returns-in-Network c).In-Network-2 in
+    let r = read_room a.bytes.now a.lines.now a.starts.now (omega arith) (omega arith) ∙ found (goal.at.returns-in-Network c).In-Network in
     record { allowed = record { answer = sym r; new_lines = rw r c.copy_network.ensures.lines; new_starts = rw r c.copy_network.ensures.starts } }
 
 pub returns-in-Refused : goal.returns-in-Refused

@@ -60,9 +60,9 @@ returns-in-Refused c =
     let bytes = c.args.bytes.now in
     let m = c.loop-lines.lines in
     let s = c.loop-lines.starts in
-    let refusal = c.«record».given.0.0 in
+    let refusal = c.in-Refused.refusal in
     let r : length bytes - (m + s) ≡ suc (length bytes - (m + s + 1)) = omega arith in
-    let e : refusal_answer refusal ≡ record_after bytes m s = ap record_answer (sym c.«record».given.1) ∙ c.record_after-record.ensures.«record» in
+    let e : refusal_answer refusal ≡ record_after bytes m s = ap record_answer (sym c.in-Refused.is) ∙ c.record_after-record.ensures.«record» in
     record {
       answer = sym
           (c.loop-lines.invariant.1

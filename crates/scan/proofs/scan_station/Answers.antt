@@ -29,11 +29,11 @@ loop-p-preserved-then-lines-p-2 c =
     let a = c.args in
     let l = c.loop-p in
     let f : (ℕ → Marks → Marks) = take_line a.lines.now a.round.0 a.u.0 in
-    let two = eqb-false (end_two a.lines.now l.p) a.u.0 (c.if-lines-p-2.true) in (
+    let two = c.if-lines-p-2.true in (
       omega arith,
       omega arith,
       omega arith,
-      λ n laid few. l.invariant.3 n laid few ∙ sym (up_to_more f _ l.p ∙ passed_over a.lines.now a.round.0 a.u.0 l.p _ c.else-lines-p.true two),
+      λ n laid few. l.invariant.3 n laid few ∙ sym (up_to_more f _ l.p ∙ passed_over a.lines.now a.round.0 a.u.0 l.p _ c.if-lines-p.true two),
     )
 
 pub take_line-requires : goal.take_line-requires
