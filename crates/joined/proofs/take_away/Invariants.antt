@@ -1,0 +1,12 @@
+-- `joined::take_away` meets its contract. The loop's invariant: a station is marked just when it stands among the first j of the list. The
+-- measure is the number of the list's stations left. Assumes nothing.
+use Prim.Native.Nat.{ℕ, ◌<◌, ◌≤◌}
+use mathlib.Core.Path.{◌≡◌}
+use lib.ListN.{length, get_or}
+use lib.Dec.{eqb}
+use Rattle.laws.specs.Fold.{any_from}
+use Rattle.pieces.specs.Away.{is_gone}
+use Rattle.joined.proofs.take_away.Given as goal
+
+abbrev pub invariant-loop-j : goal.invariant-loop-j
+invariant-loop-j l = (l.j ≤ l.count) × (length l.gone ≡ length l.initial.gone) × ((v : ℕ) → v < length l.gone → is_gone l.gone v ≡ any_from (λ i. eqb (get_or l.away i 0) v) 0 l.j)

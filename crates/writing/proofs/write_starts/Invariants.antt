@@ -1,0 +1,11 @@
+-- `writing::write_starts` meets its contract. The loop's invariant: the RT records before q are put in after the LN records. The measure is
+-- the number of starts left. Assumes nothing.
+use Prim.Native.Nat.{◌+◌, ◌*◌, ◌≤◌}
+use mathlib.Core.Path.{◌≡◌}
+use lib.ListN.{length}
+use Rattle.reading.specs.Parts.{placed, gathered}
+use Rattle.writing.specs.Writing.{start_record}
+use Rattle.writing.proofs.write_starts.Given as goal
+
+abbrev pub invariant-loop-q : goal.invariant-loop-q
+invariant-loop-q l = (l.q ≤ l.s) × (length l.bytes ≡ length l.initial.bytes) × (l.bytes ≡ placed l.initial.bytes (6 + 6 * l.count) (gathered (start_record l.starts) l.q))
