@@ -1,0 +1,12 @@
+-- `rounds::check_stations` meets its contract. The loop's invariant: what is left to look at from j on is the verdict. The measure is the
+-- number of stations left. Assumes nothing.
+use Rattle.seen.specs.Tables.{seen}
+use Rattle.rounds.specs.Tables.{seen_verdict, all_seen_verdict}
+use Rattle.plans.specs.Verdicts.{Verdict.accepted, is_faulty}
+use Prim.Native.Nat.{◌-◌, ◌≤◌}
+use mathlib.Core.Path.{◌≡◌}
+use Rattle.laws.specs.Fold.{first_from}
+use Rattle.rounds.proofs.check_stations.Given as goal
+
+abbrev pub invariant-loop-j : goal.invariant-loop-j
+invariant-loop-j l = (l.j ≤ l.n) × (all_seen_verdict l.n l.round.0 l.order (seen l.earliest l.parents l.others) ≡ first_from is_faulty (seen_verdict l.round.0 l.order (seen l.earliest l.parents l.others)) accepted l.j (l.n - l.j))
