@@ -1,0 +1,36 @@
+-- `forests::check_ranks` meets its contract. The loop's invariant: what is left to look at from p on is the verdict. The measure is the
+-- number of lines left. Assumes nothing.
+use Rattle.plans.specs.Checking.{rank_verdict, ranks_verdict}
+use Rattle.plans.specs.Verdicts.{Verdict.accepted, is_faulty}
+use lib.ListN.{length}
+use Prim.Native.Nat.{◌/◌}
+use mathlib.Core.Bool.{true, false}
+use mathlib.Core.Path.{◌≡◌}
+use Rattle.laws.proofs.Fold.{first_start, first_next, first_here, first_none}
+use borrow.Author.Rules.{rules}
+use native.Mathlib.Omega.{arith}
+use Rattle.forests.proofs.check_ranks.Goals as goal
+
+pub loop-p-init : goal.loop-p-init
+unfolding ranks_verdict
+loop-p-init c = (search rules, first_start _ _ _ _)
+
+pub returns-then-is_faulty : goal.returns-then-is_faulty
+returns-then-is_faulty c =
+    let a = c.args in
+    let find = rank_verdict a.level.0 a.ranks.now in
+    let e : is_faulty (find c.loop-p.p) ≡ true = cc in
+    record { verdict = cc (first_here is_faulty find accepted (length a.lines.now / 2) c.loop-p.p (omega (arith, c.loop-p-test.true)) e) }
+
+pub loop-p-preserved : goal.loop-p-preserved
+loop-p-preserved c =
+    let a = c.args in
+    let find = rank_verdict a.level.0 a.ranks.now in
+    let e : is_faulty (find c.loop-p.p) ≡ false = cc in
+    (omega (arith, c.loop-p-test.true), cc (first_next is_faulty find accepted (length a.lines.now / 2) c.loop-p.p (omega (arith, c.loop-p-test.true)) e))
+
+pub returns : goal.returns
+returns c =
+    let a = c.args in
+    let find = rank_verdict a.level.0 a.ranks.now in
+    record { verdict = cc (first_none is_faulty find accepted (length a.lines.now / 2) c.loop-p.p (omega (arith, c.loop-p-test.false))) }

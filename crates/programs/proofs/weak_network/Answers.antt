@@ -1,0 +1,32 @@
+-- `programs::weak_network` meets its contract. Both arms rewrite by what the search answered. Assumes nothing.
+use mathlib.Core.Bool.{false}
+use mathlib.Core.Path.{◌≡◌, sym, ◌∙◌}
+use native.Mathlib.Omega.{arith}
+use borrow.Author.Tests.{le-ltb}
+use lib.ListN.{length}
+use lib.Dec.{ltb}
+use Rattle.weakness.specs.Search.{weak_answer}
+use Rattle.parting.specs.Answers.{found_standing}
+use Rattle.report.specs.Answers.{refused_short}
+use Rattle.standing.specs.Text.{weak_short}
+use Rattle.kinds.specs.Answers.{Answer.given, refusal_answer}
+use Rattle.programs.specs.Weak.{searched_text}
+use Rattle.programs.proofs.weak_network.Goals as goal
+
+pub returns-in-Decided : goal.returns-in-Decided
+unfolding searched_text weak_short
+returns-in-Decided c =
+    let a = c.args in
+    let w = c.write_standing in
+    let e : weak_answer a.n a.level.0 a.lines.now ≡ given (found_standing c.in-Decided.found) = sym c.find_weak_spot-searched.ensures.answer ∙ rw c.in-Decided.is in
+    let room : ltb (length a.text.now) 256 ≡ false = le-ltb (length a.text.now) 256 c.requires in
+    record { answer = rw e (rw room at w.ensures.answer); text = rw e (rw room at w.ensures.text) }
+
+pub returns-in-Refused : goal.returns-in-Refused
+unfolding searched_text refused_short
+returns-in-Refused c =
+    let a = c.args in
+    let w = c.write_refused in
+    let e : weak_answer a.n a.level.0 a.lines.now ≡ refusal_answer c.in-Refused.refusal = sym c.find_weak_spot-searched.ensures.answer ∙ rw c.in-Refused.is in
+    let room : ltb (length a.text.now) 64 ≡ false = le-ltb (length a.text.now) 64 (omega (arith, c.requires)) in
+    record { answer = rw e (rw room at w.ensures.answer); text = rw e (rw room at w.ensures.text) }
