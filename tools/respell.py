@@ -32,6 +32,22 @@ TOGETHER = {
     "is-ready": "is_ready_there",
     "isReady": "is_ready_next",
 }
+# What port.py turned in the sources, in the must-fail edits too, which it leaves alone.
+IN_EDITS = [
+    ("getD", "get_or"),
+    ("isRefused", "is_refused"),
+    ("upTo", "up_to"),
+    ("orderOf", "order_of"),
+    ("firstLines", "first_lines"),
+    ("″", "''"),
+    ("′", "'"),
+    ("(s .ranks)", "s.ranks"),
+    ("(round .ranks)", "round.ranks"),
+    ("round .ranks", "round.ranks"),
+    ("round .order", "round.order"),
+    ("s .orders", "s.orders"),
+    ("≡ one_round n lines", "≡ (one_round n lines"),
+]
 # The module that Rattle now makes itself, and the name that ours has instead.
 MODULE = ("Contracts", "Allowed")
 
@@ -65,6 +81,23 @@ def without_comments(text):
 def of_function(path):
     """A file on one function's code, below proofs/NAME/."""
     return re.search(r"/proofs/[^/]+/[^/]+$", path) is not None
+
+
+def edit_turned(path, text):
+    """The edit of today's text: an import that it added is added to today's line of imports."""
+    for old, new in IN_EDITS:
+        text = text.replace(old, new)
+    lines = text.split("\n")
+    for i, line in enumerate(lines):
+        if line.startswith("old: use ") and lines[i + 1].startswith("new: use "):
+            names = [set(re.findall(r"[^\s{},]+", re.search(r"\{(.*)\}", it)[1].replace("_", "◌"))) for it in (line, lines[i + 1])]
+            file = next(it[6:] for it in lines if it.startswith("file: "))
+            front = "use Rattle.std.specs.Prelude.{"
+            today = next(it for it in read(os.path.join(os.path.dirname(os.path.dirname(path)), file)).split("\n") if it.startswith(front))
+            first = today[len(front) :].split(",")[0]
+            lines[i] = f"old: {front}{first},"
+            lines[i + 1] = f"new: {front}{', '.join(sorted(names[1] - names[0]))}, {first},"
+    return "\n".join(lines)
 
 
 def main():
@@ -114,7 +147,8 @@ def main():
         lines = [comment(it) if it.lstrip().startswith("//") else turned(it, of_code) for it in read(path).split("\n")]
         write(path, "\n".join(lines))
     for path in glob.glob("crates/*/must-fail/*.edit"):
-        write(path, module("\n".join(it if it.startswith("#") else turned(it, of_code) for it in read(path).split("\n"))))
+        text = module("\n".join(it if it.startswith("#") else turned(it, of_code) for it in read(path).split("\n")))
+        write(path, edit_turned(path, text))
     for path in glob.glob("docs/**/*.md", recursive=True) + glob.glob("*.md") + ["rust/tests/promises.rs"]:
         write(path, module(comment(read(path))))
     was = f"crates/promises/specs/{MODULE[0]}.antt"

@@ -1,6 +1,6 @@
 -- A pass over a whole network: it comes to every station, so what it says of each is right.
 -- Assumes nothing.
-use Prim.Native.Nat.{ℕ, ◌+◌, ◌<◌, ◌≤◌}
+use Prim.Native.Nat.{ℕ, ◌+◌, ◌<◌}
 use mathlib.Core.Path.{◌≡◌, refl, sym, subst, ◌∙◌}
 use mathlib.Core.Logic.{◌↔◌}
 use mathlib.Core.Bool.{Bool, true, false, true≢false}
@@ -8,13 +8,13 @@ use mathlib.Core.List.{List}
 use native.Mathlib.Decide.{ℕ_discrete}
 use native.Mathlib.Omega.{arith}
 use lib.ListN.{length, get_or}
-use Rattle.network.specs.Chains.{Chain, Chain.here, Chain.step}
+use Rattle.network.specs.Chains.{Chain.here, Chain.step}
 use Rattle.network.proofs.Chains.{chain_start}
 use Rattle.pieces.specs.Joined.{Remains, Joined, Whole, Parted}
 use Rattle.pieces.specs.Away.{is_gone}
 use Rattle.neighbours.specs.Near.{Near}
 use Rattle.cuts.specs.Cuts.{and_away, SaysCuts}
-use Rattle.cuts.specs.Passes.{Seen, New, Right, Start, Grown, Ended, Unseen, Visited, first_depth}
+use Rattle.cuts.specs.Passes.{Seen, New, Start, Ended, Unseen, Visited, first_depth}
 use Rattle.cuts.proofs.Seen.{besides_stays, besides_other}
 
 -- A table of first depths is one of stations not seen.

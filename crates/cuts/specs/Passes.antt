@@ -1,6 +1,6 @@
 -- How the cut stations are found: a depth-first pass, which gives each station that it comes to a depth.
 -- Only the helpers speak of it. Assumes nothing.
-use Rattle.std.specs.Prelude.{ℕ, ◌+◌, ◌<◌, ◌≤◌, ◌≡◌, ◌≢◌, Bool, true, false, List, length, get_or, eqb}
+use Rattle.std.specs.Prelude.{ℕ, ◌<◌, ◌≤◌, ◌≡◌, ◌≢◌, Bool, true, false, List, length, get_or, eqb}
 use Rattle.laws.specs.Count.{count}
 use Rattle.network.specs.Chains.{Chain}
 use Rattle.pieces.specs.Joined.{Remains, Joined, Parted}

@@ -3,7 +3,6 @@
 use native.Mathlib.Omega.{arith}
 use Prim.Native.Nat.{ℕ}
 use mathlib.Core.Path.{sym, subst, ◌∙◌}
-use mathlib.Core.Bool.{true}
 use lib.ListN.{length}
 use Rattle.pieces.specs.Away.{is_gone}
 use Rattle.neighbours.specs.Near.{Near}

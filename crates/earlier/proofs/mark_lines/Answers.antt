@@ -7,7 +7,7 @@ use borrow.Author.Rules.{rules}
 use lib.ListN.{length}
 use Rattle.laws.specs.Fold.{up_to}
 use Rattle.laws.proofs.Fold.{up_to_more}
-use Rattle.earlier.specs.Pairs.{remember_line, mark_line, marked}
+use Rattle.earlier.specs.Pairs.{remember_line, mark_line}
 use Rattle.earlier.proofs.mark_lines.Goals as goal
 
 pub loop-p-init : goal.loop-p-init

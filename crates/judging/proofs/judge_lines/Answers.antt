@@ -1,7 +1,6 @@
 -- `judging::judge_lines` meets its contract. The lines at the front have good ends, so that those of them that stood earlier can be found.
 -- Assumes nothing.
 use mathlib.Core.Path.{◌≡◌, refl, sym, ap, ◌∙◌}
-use mathlib.Core.Logic.{⊎_elim}
 use native.Mathlib.Omega.{arith}
 use lib.ListN.{length}
 use Rattle.kinds.specs.Refusals.{list_number}

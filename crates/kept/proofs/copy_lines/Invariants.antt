@@ -5,7 +5,6 @@ use mathlib.Core.Path.{◌≡◌}
 use mathlib.Core.List.{[]}
 use lib.ListN.{length}
 use Rattle.laws.specs.Fold.{up_to}
-use Rattle.laws.specs.Count.{count}
 use Rattle.kept.specs.Kept.{copy_line}
 use Rattle.kept.specs.Filled.{Filled}
 use Rattle.kept.proofs.copy_lines.Given as goal

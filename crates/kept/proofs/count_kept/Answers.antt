@@ -8,7 +8,6 @@ use borrow.Author.Tests.{eq-eqb, ne_eqb}
 use borrow.Author.Rules.{rules}
 use lib.Dec.{eqb}
 use lib.ListN.{length, get_or}
-use Rattle.laws.specs.Count.{count}
 use Rattle.laws.proofs.Count.{count_more}
 use Rattle.kept.specs.Kept.{kept_count}
 use Rattle.kept.proofs.count_kept.Goals as goal

@@ -2,7 +2,6 @@
 -- is n - b. Assumes nothing.
 use Rattle.parting.specs.Looking.{is_apart}
 use Rattle.laws.proofs.Fold.{first_start, first_next, first_here, first_none}
-use Rattle.laws.specs.Fold.{lowest}
 use mathlib.Core.Path.{◌≡◌, sym, ◌∙◌}
 use mathlib.Core.Bool.{true, false}
 use borrow.Author.Rules.{rules}

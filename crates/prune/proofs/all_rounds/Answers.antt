@@ -9,7 +9,6 @@ use borrow.Author.Rules.{rules}
 use lib.ListN.{length, take, drop, length-append, length-take, length-drop}
 use lib.Seq.{drop-length}
 use Rattle.laws.specs.Fold.{up_to}
-use Rattle.laws.specs.Count.{count}
 use Rattle.laws.proofs.Fold.{up_to_more}
 use Rattle.laws.proofs.Lists.{part_next, part_fits}
 use Rattle.scan.proofs.Laid.{laid_alike}

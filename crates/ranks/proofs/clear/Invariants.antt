@@ -4,7 +4,6 @@ use Prim.Native.Nat.{◌≤◌}
 use mathlib.Core.Path.{◌≡◌}
 use mathlib.Core.List.{◌++◌}
 use lib.ListN.{length, drop, replicate}
-use Rattle.laws.specs.Count.{count}
 use Rattle.ranks.proofs.clear.Given as goal
 
 abbrev pub invariant-loop-p : goal.invariant-loop-p

@@ -5,7 +5,7 @@ use mathlib.Core.Path.{◌≡◌, refl, sym, ap, ◌∙◌}
 use mathlib.Core.Logic.{◌≢◌}
 use mathlib.Core.List.{List}
 use native.Mathlib.Omega.{arith}
-use borrow.Author.Tests.{ne_eqb, eqb-false}
+use borrow.Author.Tests.{ne_eqb}
 use borrow.Author.Rules.{rules}
 use lib.ListN.{length}
 use Rattle.laws.specs.Fold.{up_to}

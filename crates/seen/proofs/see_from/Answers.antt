@@ -1,8 +1,4 @@
 -- `seen::see_from` meets its contract. Each return rewrites by the tests that led to it. Assumes nothing.
-use lib.ListN.{length, length-set}
-use mathlib.Core.Path.{◌≡◌, ap, ◌∙◌}
-use mathlib.Core.Bool.{true}
-use native.Mathlib.Omega.{arith}
 use Rattle.seen.specs.Tables.{see_from}
 use borrow.Author.Tests.{lt-ltb, le-ltb}
 use Rattle.seen.proofs.see_from.Goals as goal

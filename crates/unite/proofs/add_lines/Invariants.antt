@@ -3,7 +3,6 @@
 use Prim.Native.Nat.{◌≤◌}
 use mathlib.Core.Path.{◌≡◌}
 use lib.ListN.{length, take}
-use Rattle.laws.specs.Count.{count}
 use Rattle.laws.specs.Fold.{up_to}
 use Rattle.kept.specs.Filled.{Filled}
 use Rattle.unite.specs.Adding.{add_new}

@@ -2,11 +2,9 @@
 -- number of lines left. Assumes nothing.
 use Prim.Native.Nat.{◌/◌}
 use mathlib.Core.Path.{◌≡◌, refl, sym, ◌∙◌}
-use mathlib.Core.Logic.{⊎_elim}
 use native.Mathlib.Omega.{arith}
 use borrow.Author.Rules.{rules}
 use lib.ListN.{length}
-use Rattle.laws.specs.Count.{count}
 use Rattle.laws.proofs.Count.{count_more}
 use Rattle.unite.specs.Adding.{is_new}
 use Rattle.unite.proofs.count_new.Goals as goal

@@ -1,7 +1,6 @@
 -- `unite::unite_lists` meets its contract. The ends of sound lists are good, so that the lines that stood earlier can be found; they stand
 -- in the first list. Assumes nothing.
 use mathlib.Core.Path.{◌≡◌, refl, sym, ap, ◌∙◌}
-use mathlib.Core.Logic.{⊎_elim}
 use lib.ListN.{length}
 use Rattle.earlier.proofs.Earlier.{proper_wider}
 use Rattle.unite.specs.Adding.{Marks}
