@@ -1,17 +1,18 @@
 // Reads a network file on standard input, and writes whether the network stands or its weak spot, or why the file is refused.
 #![tactic(auto)]
 
-use console::write_front;
-use libc::STDIN_FILENO;
+use console::{read_front, room, write_front};
 use report::Written;
+use std::io;
 
 // The longest file has 49,226 bytes, so what stands past 65,536 bytes changes nothing of the answer.
-fn main() {
-    let mut bytes = [0u8; 65536];
-    let got = io::read_full(STDIN_FILENO, &mut bytes);
-    let mut text = [0u8; 256];
+fn main(rt: HostRuntime) -> io::Result<()> {
+    let mut bytes = room::<65536>();
+    let got = read_front(&mut rt.stdin(), &mut bytes)?;
+    let mut text = room::<256>();
     let written = programs::weak_text(&bytes[..got], &mut text);
     if let Written::Bytes(count) = written {
-        write_front(&text, count);
+        write_front(&mut rt.stdout(), &text, count)?;
     }
+    Ok(())
 }
