@@ -13,10 +13,12 @@ fn main() {
 }
 
 fn link_library(top: &Path) {
-    built::bring_up_to_date(top, &["target/staticlib/libtapuhzel.a"], &["staticlib", "tapuhzel"]);
+    built::bring_up_to_date(top, "target/staticlib/libtapuhzel.a", "", "tools/staticlib", &[]);
     let folder = top.join("target/staticlib");
     println!("cargo:rerun-if-changed={}", folder.join("libtapuhzel.a").display());
-    println!("cargo:rerun-if-changed={}", top.join("crates").display());
+    for source in built::sources(top) {
+        println!("cargo:rerun-if-changed={}", source.display());
+    }
     println!("cargo:rustc-link-search=native={}", folder.display());
     println!("cargo:rustc-link-lib=static=tapuhzel");
 }

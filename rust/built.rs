@@ -1,18 +1,26 @@
 //! What `rt` builds, for whoever needs it: the build script, and the tests that run the programs.
 
 use std::fs;
-use std::path::Path;
-use std::process::Command;
+use std::path::{Path, PathBuf};
+use std::process::{Command, Stdio};
 use std::time::SystemTime;
 
-/// Has `rt` run by its words where one of the files, named from the top of the repository, is not there or older than
-/// the sources.
-pub fn bring_up_to_date(top: &Path, files: &[&str], words: &[&str]) {
-    let sources = last_written(&top.join("crates"));
-    if files.iter().any(|file| last_written(&top.join(file)) < sources) {
-        let built = Command::new("rt").args(words).current_dir(top).status();
-        assert!(matches!(built, Ok(status) if status.success()), "rt {} failed", words.join(" "));
+/// Has a command run in a folder where a file is not there or older than the sources; both are named from the top of the
+/// repository. It gets no input, and what it says goes to standard error.
+pub fn bring_up_to_date(top: &Path, file: &str, folder: &str, command: &str, words: &[&str]) {
+    let sources = sources(top).iter().map(|path| last_written(path)).max();
+    if Some(last_written(&top.join(file))) < sources {
+        let silent = Stdio::null;
+        let built = Command::new(command).args(words).current_dir(top.join(folder)).stdin(silent()).stdout(silent()).status();
+        assert!(matches!(built, Ok(status) if status.success()), "{command} {} failed in {folder}", words.join(" "));
     }
+}
+
+/// The sources: what stands in the folder of a crate, but for what `rt` leaves there.
+pub fn sources(top: &Path) -> Vec<PathBuf> {
+    let inside = |folder: &Path| fs::read_dir(folder).into_iter().flatten().flatten().map(|entry| entry.path());
+    let all = inside(&top.join("crates")).flat_map(|folder| inside(&folder));
+    all.filter(|path| !path.ends_with("out")).collect()
 }
 
 /// When a file, or the newest file below a folder, was written; long ago where there is none.

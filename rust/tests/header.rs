@@ -30,8 +30,8 @@ fn declared(text: &str, parameter: fn(&str) -> String) -> Routines {
 
 /// The routines of the proved crate.
 fn proved() -> Routines {
-    let source = |name: String| text(&format!("crates/tapuhzel/src/{name}.rt"));
-    names("crates/tapuhzel/src", ".rt").into_iter().flat_map(|name| declared(&source(name), from_rattle)).collect()
+    let source = |name: String| text(&format!("crates/tapuhzel_c/src/{name}.rt"));
+    names("crates/tapuhzel_c/src", ".rt").into_iter().flat_map(|name| declared(&source(name), from_rattle)).collect()
 }
 
 /// A parameter of Rattle as it crosses: a slice is a pointer and a length.
@@ -86,7 +86,7 @@ fn the_header_and_the_boundary_declare_what_is_proved() {
 /// Asks that a file declares every routine as it is proved, and no other.
 fn hold(file: &str, declared: &Routines) {
     let proved = proved();
-    assert!(!proved.is_empty(), "no routine is found in crates/tapuhzel");
+    assert!(!proved.is_empty(), "no routine is found in crates/tapuhzel_c");
     let lacking: Vec<&String> = proved.difference(declared).collect();
     let other: Vec<&String> = declared.difference(&proved).collect();
     assert!(lacking.is_empty() && other.is_empty(), "{file} has\n{other:#?}\nand not, as is proved,\n{lacking:#?}");

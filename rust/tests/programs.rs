@@ -63,14 +63,20 @@ fn hold_program(origin: &str, program: &str, input: &[u8], piece: usize, right: 
     assert!(said == right, "{differ}:\n{said:.200}\nexpected:\n{right:.200}");
 }
 
+/// Where `rt` leaves a program.
+fn built(program: &str) -> String {
+    format!("crates/{program}/out/{program}")
+}
+
 /// Runs a program. What it writes is read while it is fed, since neither need fit a pipe.
 fn run(program: &str, input: &[u8], piece: usize) -> Output {
     static BUILT: Once = Once::new();
     BUILT.call_once(|| {
-        let programs = ["target/bin/keep", "target/bin/weak"];
-        built::bring_up_to_date(&repository::path(""), &programs, &["check", "keep", "weak"]);
+        for (program, _) in PROGRAMS {
+            built::bring_up_to_date(&repository::path(""), &built(program), &format!("crates/{program}"), "rt", &["run"]);
+        }
     });
-    let mut command = Command::new(repository::path("target/bin").join(program));
+    let mut command = Command::new(repository::path(&built(program)));
     let piped = command.stdin(Stdio::piped()).stdout(Stdio::piped()).stderr(Stdio::piped()).spawn();
     let mut child = piped.expect("the program starts");
     let pipe = child.stdin.take().expect("the input is piped");

@@ -78,7 +78,7 @@ fn every_name_of_the_map_is_in_its_file() {
 /// Whether a text of Rattle or antt declares a name: a definition, a law, a function, a type.
 fn declares(text: &str, name: &str) -> bool {
     let forms = ["record ", "data ", "fn ", "struct ", "enum "];
-    let ends = |rest: &str| !rest.starts_with(|letter: char| letter.is_alphanumeric() || "_-′".contains(letter));
+    let ends = |rest: &str| !rest.starts_with(|letter: char| letter.is_alphanumeric() || "_-'".contains(letter));
     text.lines().any(|line| {
         let line = line.trim_start();
         let law = ["", "pub ", "abbrev pub ", "unfoldable pub ", "abbrev ", "unfoldable "];
@@ -104,7 +104,7 @@ const CALLS: [(&str, &str); 11] = [
 
 #[test]
 fn every_routine_of_the_c_face_has_its_contract() {
-    let sources: String = names("crates/tapuhzel/src", ".rt").iter().map(|name| text(&format!("crates/tapuhzel/src/{name}.rt"))).collect();
+    let sources: String = names("crates/tapuhzel_c/src", ".rt").iter().map(|name| text(&format!("crates/tapuhzel_c/src/{name}.rt"))).collect();
     assert_eq!(sources.matches("pub extern \"C\" fn").count(), CALLS.len(), "the C face has other routines");
     for (routine, value) in CALLS {
         let declared = sources.split(&format!("fn tapuhzel_{routine}(")).nth(1).unwrap_or_default();

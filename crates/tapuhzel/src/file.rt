@@ -10,8 +10,7 @@ use reading::Reading;
 use writing::Writing;
 
 // Reads a network file into lent buffers, and says how many stations, lines and starts it has and its level.
-#[unsafe(no_mangle)]
-pub extern "C" fn tapuhzel_read(
+pub fn tapuhzel_read(
     bytes: &[u8],
     lines: &mut [u16],
     starts: &mut [u16],
@@ -44,8 +43,7 @@ pub extern "C" fn tapuhzel_read(
 }
 
 // Writes a network as a file, and says how many bytes it has.
-#[unsafe(no_mangle)]
-pub extern "C" fn tapuhzel_write(
+pub fn tapuhzel_write(
     n: usize,
     level: usize,
     lines: &[u16],
@@ -71,8 +69,7 @@ pub extern "C" fn tapuhzel_write(
 }
 
 // What keep writes of a file's bytes.
-#[unsafe(no_mangle)]
-pub extern "C" fn tapuhzel_keep_text(bytes: &[u8], text: &mut [u8], count: &mut usize) -> u8
+pub fn tapuhzel_keep_text(bytes: &[u8], text: &mut [u8], count: &mut usize) -> u8
     ensures call { (result, count.new, text.new) ≡ text_call 524416 (keep_output bytes.now) text.old }
 {
     let written = programs::keep_text(bytes, text);
@@ -80,8 +77,7 @@ pub extern "C" fn tapuhzel_keep_text(bytes: &[u8], text: &mut [u8], count: &mut 
 }
 
 // What weak writes of a file's bytes.
-#[unsafe(no_mangle)]
-pub extern "C" fn tapuhzel_weak_text(bytes: &[u8], text: &mut [u8], count: &mut usize) -> u8
+pub fn tapuhzel_weak_text(bytes: &[u8], text: &mut [u8], count: &mut usize) -> u8
     ensures call { (result, count.new, text.new) ≡ text_call 256 (weak_output bytes.now) text.old }
 {
     let written = programs::weak_text(bytes, text);

@@ -1,4 +1,5 @@
-// The C face: the public routines on numbers and lent slices. `codes` says how an answer is encoded, and include/tapuhzel.h says it for C.
+// The C face: the public routines on numbers and lent slices, which `tapuhzel_c` exports. `codes` says how an answer is encoded, and
+// include/tapuhzel.h says it for C.
 #![tactic(auto)]
 
 mod verdict; // verdict.rt: the check of forests
@@ -9,15 +10,17 @@ ghost use Rattle.std.specs.Prelude.{◌≡◌};
 ghost use Rattle.tapuhzel.specs.Calls.{judge_call, prune_call, copy_call, unite_call, joined_call};
 
 use codes::{say_refusal, say_taken};
+pub use file::{tapuhzel_keep_text, tapuhzel_read, tapuhzel_weak_text, tapuhzel_write};
 use joined::Answered;
 use kept::Copied;
 use kinds::{Judged, Level, Station};
 use prune::Pruned;
+pub use spot::tapuhzel_weak;
 use unite::United;
+pub use verdict::tapuhzel_check;
 
 // The judge of a network of n stations and a list of lines.
-#[unsafe(no_mangle)]
-pub extern "C" fn tapuhzel_judge(n: usize, lines: &[u16], place: &mut usize, list: &mut u8) -> u8
+pub fn tapuhzel_judge(n: usize, lines: &[u16], place: &mut usize, list: &mut u8) -> u8
     ensures call { (result, place.new, list.new) ≡ judge_call n lines.now }
 {
     let judged = judging::judge(n, lines);
@@ -28,8 +31,7 @@ pub extern "C" fn tapuhzel_judge(n: usize, lines: &[u16], place: &mut usize, lis
 }
 
 // Prunes a network at a level: ranks, orders and the count of kept lines.
-#[unsafe(no_mangle)]
-pub extern "C" fn tapuhzel_prune(
+pub fn tapuhzel_prune(
     n: usize,
     level: usize,
     lines: &[u16],
@@ -56,8 +58,7 @@ pub extern "C" fn tapuhzel_prune(
 }
 
 // Copies the kept lines, those of nonzero rank, and says how many.
-#[unsafe(no_mangle)]
-pub extern "C" fn tapuhzel_copy(
+pub fn tapuhzel_copy(
     lines: &[u16],
     ranks: &[u8],
     room: &mut [u16],
@@ -81,8 +82,7 @@ pub extern "C" fn tapuhzel_copy(
 }
 
 // Unites two lists, and says how many lines the union has.
-#[unsafe(no_mangle)]
-pub extern "C" fn tapuhzel_unite(
+pub fn tapuhzel_unite(
     n: usize,
     first: &[u16],
     second: &[u16],
@@ -107,8 +107,7 @@ pub extern "C" fn tapuhzel_unite(
 }
 
 // Whether two stations are joined when others are taken away.
-#[unsafe(no_mangle)]
-pub extern "C" fn tapuhzel_joined(
+pub fn tapuhzel_joined(
     n: usize,
     lines: &[u16],
     away: &[u16],

@@ -7,8 +7,7 @@ use kinds::Level;
 use weakness::Searched;
 
 // The weak spot of a network at a level from 1 to 3.
-#[unsafe(no_mangle)]
-pub extern "C" fn tapuhzel_weak(
+pub fn tapuhzel_weak(
     n: usize,
     level: usize,
     lines: &[u16],

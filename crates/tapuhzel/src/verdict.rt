@@ -7,8 +7,7 @@ use forests::Checked;
 use kinds::Level;
 
 // The check of forests, over ranks and orders from anywhere.
-#[unsafe(no_mangle)]
-pub extern "C" fn tapuhzel_check(
+pub fn tapuhzel_check(
     n: usize,
     level: usize,
     lines: &[u16],
