@@ -2,7 +2,7 @@
  * painted before, and the paint that is gone is counted. It fails where a routine takes more than its goal; and each is
  * called once more in a thread that has 128 KB of stack in all, its own needs included.
  *
- *   rt staticlib tapuhzel && cc -O2 -I include bench/stack.c target/staticlib/libtapuhzel.a -lpthread -o target/stack
+ *   tools/staticlib && cc -O2 -I include bench/stack.c target/staticlib/libtapuhzel.a -lpthread -o target/stack
  *   target/stack
  */
 #define _POSIX_C_SOURCE 200809L
