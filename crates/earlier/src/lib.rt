@@ -79,6 +79,7 @@ fn mark_lines(lines: &[u16], pairs: &mut [u64], again: &mut [u64])
 }
 
 // The places of the lines of the second list that stood earlier, of up to 256 stations, with a bit for each pair of them.
+#[inline(never)]
 pub fn find_few(first: &[u16], second: &[u16], again: &mut [u64])
     requires { Proper (network 256 first.now) × Proper (network 256 second.now) × (length first.now ≤ 16384) × (length second.now ≤ 16384) × (again.old ≡ replicate 128 0) }
     ensures again { (p : ℕ) → is_in again.new p ≡ (ltb p (length second.now / 2) && stood_earlier first.now second.now p) }
@@ -89,6 +90,7 @@ pub fn find_few(first: &[u16], second: &[u16], again: &mut [u64])
 }
 
 // The places of the lines of the second list that stood earlier, of up to 1,024 stations, with a bit for each pair of them.
+#[inline(never)]
 pub fn find_many(first: &[u16], second: &[u16], again: &mut [u64])
     requires { Proper (network 1024 first.now) × Proper (network 1024 second.now) × (length first.now ≤ 16384) × (length second.now ≤ 16384) × (again.old ≡ replicate 128 0) }
     ensures again { (p : ℕ) → is_in again.new p ≡ (ltb p (length second.now / 2) && stood_earlier first.now second.now p) }

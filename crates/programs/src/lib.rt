@@ -62,6 +62,7 @@ fn weak_network(n: usize, level: Level, lines: &[u16], text: &mut [u8]) -> Writt
 }
 
 // What a program writes of a file that was read and has at most 256 lines.
+#[inline(never)]
 fn say_few(program: Program, bytes: &[u8], found: Found, text: &mut [u8]) -> Written
     requires { (file_read bytes.now ≡ given (facts_of found)) × (found.lines ≤ 256) × (room_of program ≤ length text.old) }
     ensures answer { result ≡ written_answer false (output_of program bytes.now) }
@@ -96,6 +97,7 @@ fn say_few(program: Program, bytes: &[u8], found: Found, text: &mut [u8]) -> Wri
 }
 
 // The same of any file.
+#[inline(never)]
 fn say_many(program: Program, bytes: &[u8], found: Found, text: &mut [u8]) -> Written
     requires { (file_read bytes.now ≡ given (facts_of found)) × (room_of program ≤ length text.old) }
     ensures answer { result ≡ written_answer false (output_of program bytes.now) }
@@ -129,8 +131,8 @@ fn say_many(program: Program, bytes: &[u8], found: Found, text: &mut [u8]) -> Wr
     }
 }
 
-// What a program writes of the bytes of a file, with buffers as large as it needs. It is asked in two steps whether it is small, so that
-// `say_many` is called from two places: else the back end would give its buffers room here, for small files too.
+// What a program writes of the bytes of a file, with buffers as large as it needs: `say_many` stays a call, so that a small file takes no
+// room on the stack for its buffers.
 fn say(program: Program, bytes: &[u8], text: &mut [u8]) -> Written
     requires { room_of program ≤ length text.old }
     ensures answer { result ≡ written_answer false (output_of program bytes.now) }

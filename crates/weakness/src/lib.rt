@@ -40,6 +40,7 @@ fn rank_lines(n: usize, level: Level, lines: &[u16], ranks: &mut [u8]) -> usize
 
 // The search over the lines that pruning from station 0 keeps, with tables for up to 64 stations and 256 lines: what is taken away there
 // parts the same stations. Copying does not refuse here, since the room has a place for each line.
+#[inline(never)]
 fn search_few(n: usize, level: Level, lines: &[u16]) -> Found
     requires { Searchable n level.0 lines.now × (n ≤ 64) × (length lines.now ≤ 512) }
     ensures found { found_standing result ≡ weak_spot n level.0 lines.now }
@@ -67,6 +68,7 @@ fn search_few(n: usize, level: Level, lines: &[u16]) -> Found
 }
 
 // The same, with tables for every network: pruning at level 3 keeps at most 3 times 1,023 lines.
+#[inline(never)]
 fn search_many(n: usize, level: Level, lines: &[u16]) -> Found
     requires { Searchable n level.0 lines.now }
     ensures found { found_standing result ≡ weak_spot n level.0 lines.now }
@@ -93,8 +95,8 @@ fn search_many(n: usize, level: Level, lines: &[u16]) -> Found
     )
 }
 
-// The search over a network that is not refused, with tables as large as it needs. It is asked in two steps whether they are small, so that
-// `search_many` is called from two places: else the back end would give its tables room here, for small networks too.
+// The search over a network that is not refused, with tables as large as it needs: `search_many` stays a call, so that a small network
+// takes no room on the stack for its tables.
 fn search_network(n: usize, level: Level, lines: &[u16]) -> Found
     requires { Searchable n level.0 lines.now }
     ensures found { found_standing result ≡ weak_spot n level.0 lines.now }
