@@ -13,7 +13,7 @@ fn main() {
 }
 
 fn link_library(top: &Path) {
-    built::bring_up_to_date(top, "target/staticlib/libtapuhzel.a", "", "tools/staticlib", &[]);
+    built::bring_up_to_date(top, "target/staticlib/libtapuhzel.a", "", &["bash", "tools/staticlib"]);
     let folder = top.join("target/staticlib");
     println!("cargo:rerun-if-changed={}", folder.join("libtapuhzel.a").display());
     for source in built::sources(top) {

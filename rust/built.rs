@@ -5,14 +5,15 @@ use std::path::{Path, PathBuf};
 use std::process::{Command, Stdio};
 use std::time::SystemTime;
 
-/// Has a command run in a folder where a file is not there or older than the sources; both are named from the top of the
-/// repository. It gets no input, and what it says goes to standard error.
-pub fn bring_up_to_date(top: &Path, file: &str, folder: &str, command: &str, words: &[&str]) {
+/// Has a command run in a folder where a file is not there or older than the sources; folder and file are named from the
+/// top of the repository. It gets no input; what went wrong it says on standard error.
+pub fn bring_up_to_date(top: &Path, file: &str, folder: &str, words: &[&str]) {
     let sources = sources(top).iter().map(|path| last_written(path)).max();
     if Some(last_written(&top.join(file))) < sources {
-        let silent = Stdio::null;
-        let built = Command::new(command).args(words).current_dir(top.join(folder)).stdin(silent()).stdout(silent()).status();
-        assert!(matches!(built, Ok(status) if status.success()), "{command} {} failed in {folder}", words.join(" "));
+        let mut command = Command::new(words[0]);
+        command.args(&words[1..]).current_dir(top.join(folder)).stdin(Stdio::null()).stdout(Stdio::null());
+        let built = command.status();
+        assert!(matches!(built, Ok(status) if status.success()), "{} failed in {folder}/", words.join(" "));
     }
 }
 

@@ -73,7 +73,7 @@ fn run(program: &str, input: &[u8], piece: usize) -> Output {
     static BUILT: Once = Once::new();
     BUILT.call_once(|| {
         for (program, _) in PROGRAMS {
-            built::bring_up_to_date(&repository::path(""), &built(program), &format!("crates/{program}"), "rt", &["run"]);
+            built::bring_up_to_date(&repository::path(""), &built(program), &format!("crates/{program}"), &["rt", "run"]);
         }
     });
     let mut command = Command::new(repository::path(&built(program)));
