@@ -39,6 +39,7 @@ IN_EDITS = [
     ("upTo", "up_to"),
     ("orderOf", "order_of"),
     ("firstLines", "first_lines"),
+    ("pairAt", "pair_at"),
     ("″", "''"),
     ("′", "'"),
     ("(s .ranks)", "s.ranks"),
