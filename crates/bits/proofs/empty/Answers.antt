@@ -1,4 +1,4 @@
--- `bits::empty` meets its contract. The loop's invariant: the first i words are 0. The measure is count - i. Assumes nothing.
+-- `bits::empty` meets its contract. Assumes nothing.
 use mathlib.Core.Path.{◌≡◌, refl, ◌∙◌}
 use native.Mathlib.Omega.{arith}
 use borrow.Author.Rules.{rules}

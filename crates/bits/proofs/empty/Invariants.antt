@@ -1,4 +1,4 @@
--- `bits::empty` meets its contract. The loop's invariant: the first i words are 0. The measure is count - i. Assumes nothing.
+-- The loop's invariant in `bits::empty`: the first i words are 0.
 use Prim.Native.Nat.{◌≤◌}
 use mathlib.Core.Path.{◌≡◌}
 use mathlib.Core.List.{◌++◌}

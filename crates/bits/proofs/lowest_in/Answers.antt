@@ -1,4 +1,4 @@
--- `bits::lowest_in` meets its contract. The loop's invariant: nothing is in the words before i. The measure is count - i. Assumes nothing.
+-- `bits::lowest_in` meets its contract. Assumes nothing.
 use Prim.Native.Nat.{ℕ}
 use mathlib.Core.Path.{◌≡◌, ◌∙◌}
 use mathlib.Core.List.{List}

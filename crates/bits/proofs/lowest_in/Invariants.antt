@@ -1,4 +1,4 @@
--- `bits::lowest_in` meets its contract. The loop's invariant: nothing is in the words before i. The measure is count - i. Assumes nothing.
+-- The loop's invariant in `bits::lowest_in`: nothing is in the words before i.
 use Prim.Native.Nat.{◌≤◌}
 use Rattle.bits.specs.Sets.{is_in}
 use Rattle.bits.proofs.Lowest.{NoneBefore}

@@ -1,5 +1,4 @@
--- `bits::lowest_out` meets its contract. The loop's invariant: every number of the words before i is in the set. The measure is count - i.
--- Assumes nothing.
+-- `bits::lowest_out` meets its contract. Assumes nothing.
 use Prim.Native.Nat.{ℕ, ◌-◌, ◌^◌}
 use mathlib.Core.Path.{◌≡◌, ◌∙◌}
 use mathlib.Core.Bool.{not}

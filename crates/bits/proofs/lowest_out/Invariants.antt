@@ -1,5 +1,4 @@
--- `bits::lowest_out` meets its contract. The loop's invariant: every number of the words before i is in the set. The measure is count - i.
--- Assumes nothing.
+-- The loop's invariant in `bits::lowest_out`: every number of the words before i is in the set.
 use Prim.Native.Nat.{◌≤◌}
 use mathlib.Core.Bool.{not}
 use Rattle.bits.specs.Sets.{is_in}

@@ -1,5 +1,4 @@
--- `bits::lowest_without` meets its contract. The loop's invariant: what is in the first set's words before i is in the second set too. The
--- measure is count - i. Assumes nothing.
+-- `bits::lowest_without` meets its contract. Assumes nothing.
 use Prim.Native.Nat.{ℕ, ◌-◌, ◌^◌}
 use mathlib.Core.Path.{◌≡◌, ◌∙◌}
 use mathlib.Core.Bool.{not, ◌&&◌}

@@ -1,5 +1,4 @@
--- `bits::lowest_without` meets its contract. The loop's invariant: what is in the first set's words before i is in the second set too. The
--- measure is count - i. Assumes nothing.
+-- The loop's invariant in `bits::lowest_without`: what is in the first set's words before i is in the second set too.
 use Prim.Native.Nat.{◌≤◌}
 use mathlib.Core.Bool.{not, ◌&&◌}
 use Rattle.bits.specs.Sets.{is_in}

@@ -1,5 +1,4 @@
--- `cuts::find_cuts` meets its contract. The loop's invariant: nothing is seen, and each station below a is taken away. The measure is
--- count - a. Assumes nothing.
+-- `cuts::find_cuts` meets its contract. Assumes nothing.
 use native.Mathlib.Omega.{arith}
 use Prim.Native.Nat.{ℕ}
 use mathlib.Core.Path.{sym, subst, ◌∙◌}

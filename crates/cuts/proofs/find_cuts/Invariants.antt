@@ -1,5 +1,4 @@
--- `cuts::find_cuts` meets its contract. The loop's invariant: nothing is seen, and each station below a is taken away. The measure is
--- count - a. Assumes nothing.
+-- The loop's invariant in `cuts::find_cuts`: nothing is seen, and each station below a is taken away.
 use Prim.Native.Nat.{ℕ, ◌<◌}
 use mathlib.Core.Path.{◌≡◌}
 use mathlib.Core.Bool.{true}

@@ -1,5 +1,4 @@
--- `cuts::pass_seen` meets its contract. The loop's invariant: the station is the same, and what held of the visit at first holds of it now.
--- The measure is how many places are left. Assumes nothing.
+-- `cuts::pass_seen` meets its contract. Assumes nothing.
 use native.Mathlib.Omega.{arith}
 use mathlib.Core.Path.{◌∙◌}
 use Rattle.cuts.proofs.Visits.{going_holds, going_passed}

@@ -1,5 +1,5 @@
--- `cuts::pass_seen` meets its contract. The loop's invariant: the station is the same, and what held of the visit at first holds of it now.
--- The measure is how many places are left. Assumes nothing.
+-- The loop's invariant in `cuts::pass_seen`: the station is the same, and what held of the visit at first holds of it now. The measure is how many
+-- places are left.
 use Prim.Native.Nat.{ℕ, ◌-◌, ◌≤◌}
 use mathlib.Core.Path.{◌≡◌}
 use mathlib.Core.Bool.{Bool}

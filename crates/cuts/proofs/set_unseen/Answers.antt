@@ -1,4 +1,4 @@
--- `cuts::set_unseen` meets its contract. The loop's invariant: the depths below v are written. The measure is count - v. Assumes nothing.
+-- `cuts::set_unseen` meets its contract. Assumes nothing.
 use native.Mathlib.Omega.{arith}
 use Prim.Native.Nat.{ℕ, ◌+◌, ◌<◌}
 use mathlib.Core.Path.{◌≡◌, refl, sym, subst}

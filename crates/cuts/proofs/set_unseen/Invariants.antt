@@ -1,4 +1,4 @@
--- `cuts::set_unseen` meets its contract. The loop's invariant: the depths below v are written. The measure is count - v. Assumes nothing.
+-- The loop's invariant in `cuts::set_unseen`: the depths below v are written.
 use Prim.Native.Nat.{ℕ, ◌<◌, ◌≤◌}
 use mathlib.Core.Path.{◌≡◌}
 use lib.ListN.{length, get_or}

@@ -1,6 +1,5 @@
--- `cuts::visit_from` meets its contract. The loop's invariant: what holds of the visits that are open (`Open`), said of the depths at which
--- the first began; and the depth is at most 1,024 less the stations without a depth. The measure is twice their number, and the depth.
--- Assumes nothing.
+-- The loop's invariant in `cuts::visit_from`: what holds of the visits that are open (`Open`), said of the depths at which the first began; and the
+-- depth is at most 1,024 less the stations without a depth. The measure is twice their number, and the depth.
 use Prim.Native.Nat.{ℕ, ◌+◌, ◌*◌, ◌≤◌}
 use mathlib.Core.Path.{◌≡◌}
 use mathlib.Core.List.{List}

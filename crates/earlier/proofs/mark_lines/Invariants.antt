@@ -1,5 +1,4 @@
--- `earlier::mark_lines` meets its contract. The loop's invariant: the lines before p are in the set too, and the places before p are marked
--- as defined. The measure is the number of lines left. Assumes nothing.
+-- The loop's invariant in `earlier::mark_lines`: the lines before p are in the set too, and the places before p are marked as defined.
 use Prim.Native.Nat.{◌≤◌}
 use mathlib.Core.Path.{◌≡◌}
 use lib.ListN.{length}

@@ -1,5 +1,4 @@
--- `earlier::remember_lines` meets its contract. The loop's invariant: the lines before p are in the set too. The measure is the number of
--- lines left. Assumes nothing.
+-- `earlier::remember_lines` meets its contract. Assumes nothing.
 use Prim.Native.Nat.{◌/◌}
 use mathlib.Core.Path.{◌≡◌, refl}
 use native.Mathlib.Omega.{arith}

@@ -1,5 +1,4 @@
--- `earlier::remember_lines` meets its contract. The loop's invariant: the lines before p are in the set too. The measure is the number of
--- lines left. Assumes nothing.
+-- The loop's invariant in `earlier::remember_lines`: the lines before p are in the set too.
 use Prim.Native.Nat.{◌≤◌}
 use mathlib.Core.Path.{◌≡◌}
 use lib.ListN.{length}

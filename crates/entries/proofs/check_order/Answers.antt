@@ -1,5 +1,4 @@
--- `entries::check_order` meets its contract. The loop's invariant: the first j entries are placed, and what is left to look at from j on is
--- the verdict. The measure is n - j. Assumes nothing.
+-- `entries::check_order` meets its contract. Assumes nothing.
 use mathlib.Core.Bool.{true≢false, true, false}
 use mathlib.Core.Path.{sym, ◌∙◌, ◌≡◌, refl}
 use Rattle.plans.specs.Checking.{entry_verdict, order_verdict}

@@ -1,5 +1,4 @@
--- `entries::check_order` meets its contract. The loop's invariant: the first j entries are placed, and what is left to look at from j on is
--- the verdict. The measure is n - j. Assumes nothing.
+-- The loop's invariant in `entries::check_order`: the first j entries are placed, and what is left to look at from j on is the verdict.
 use mathlib.Core.Path.{◌≡◌}
 use Rattle.entries.specs.Placed.{Placed}
 use Rattle.plans.specs.Checking.{entry_verdict, order_verdict}

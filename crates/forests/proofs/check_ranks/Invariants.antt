@@ -1,5 +1,4 @@
--- `forests::check_ranks` meets its contract. The loop's invariant: what is left to look at from p on is the verdict. The measure is the
--- number of lines left. Assumes nothing.
+-- The loop's invariant in `forests::check_ranks`: what is left to look at from p on is the verdict.
 use Rattle.plans.specs.Checking.{rank_verdict, ranks_verdict}
 use Rattle.plans.specs.Verdicts.{Verdict.accepted, is_faulty}
 use Prim.Native.Nat.{◌-◌, ◌≤◌}

@@ -1,5 +1,4 @@
--- `forests::check_rounds` meets its contract. The loop's invariant: round i + 1 has the n places from i times n on, and what is left to
--- look at from i on is the verdict. The measure is k - i. Assumes nothing.
+-- `forests::check_rounds` meets its contract. Assumes nothing.
 use Rattle.plans.specs.Verdicts.{Verdict, Verdict.accepted, is_faulty}
 use Rattle.plans.specs.Orders.{order_of}
 use Rattle.plans.specs.Checking.{round_verdict, rounds_verdict}

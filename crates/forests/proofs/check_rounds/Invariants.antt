@@ -1,5 +1,5 @@
--- `forests::check_rounds` meets its contract. The loop's invariant: round i + 1 has the n places from i times n on, and what is left to
--- look at from i on is the verdict. The measure is k - i. Assumes nothing.
+-- The loop's invariant in `forests::check_rounds`: round i + 1 has the n places from i times n on, and what is left to look at from i on is the
+-- verdict.
 use Rattle.plans.specs.Verdicts.{Verdict.accepted, is_faulty}
 use Rattle.rounds.specs.Tables.{Room}
 use Rattle.plans.specs.Orders.{order_of}

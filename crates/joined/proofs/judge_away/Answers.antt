@@ -1,5 +1,4 @@
--- `joined::judge_away` meets its contract. The loop's invariant: what is left to judge from j on is the answer, and the list rises below n
--- so far, so that j is at most n. The measure is the number of indices left. Assumes nothing.
+-- `joined::judge_away` meets its contract. Assumes nothing.
 use mathlib.Core.Bool.{true, false}
 use mathlib.Core.Path.{◌≡◌}
 use native.Mathlib.Omega.{arith}

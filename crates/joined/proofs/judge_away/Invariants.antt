@@ -1,5 +1,5 @@
--- `joined::judge_away` meets its contract. The loop's invariant: what is left to judge from j on is the answer, and the list rises below n
--- so far, so that j is at most n. The measure is the number of indices left. Assumes nothing.
+-- The loop's invariant in `joined::judge_away`: what is left to judge from j on is the answer, and the list rises below n so far, so that j is at
+-- most n.
 use Prim.Native.Nat.{ℕ, ◌-◌, ◌<◌, ◌≤◌}
 use mathlib.Core.Bool.{false}
 use mathlib.Core.Path.{◌≡◌}

@@ -1,5 +1,4 @@
--- `joined::take_away` meets its contract. The loop's invariant: a station is marked just when it stands among the first j of the list. The
--- measure is the number of the list's stations left. Assumes nothing.
+-- `joined::take_away` meets its contract. Assumes nothing.
 use mathlib.Core.Path.{◌≡◌, refl}
 use native.Mathlib.Omega.{arith}
 use borrow.Author.Rules.{rules}

@@ -1,5 +1,4 @@
--- `joined::take_away` meets its contract. The loop's invariant: a station is marked just when it stands among the first j of the list. The
--- measure is the number of the list's stations left. Assumes nothing.
+-- The loop's invariant in `joined::take_away`: a station is marked just when it stands among the first j of the list.
 use Prim.Native.Nat.{ℕ, ◌<◌, ◌≤◌}
 use mathlib.Core.Path.{◌≡◌}
 use lib.ListN.{length, get_or}

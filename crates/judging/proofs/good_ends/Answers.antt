@@ -1,5 +1,4 @@
--- `judging::good_ends` meets its contract. The loop's invariant: what is left to search from p on is the answer. The measure is the number
--- of lines left. Assumes nothing.
+-- `judging::good_ends` meets its contract. Assumes nothing.
 use Prim.Native.Nat.{◌/◌}
 use mathlib.Core.Path.{◌≡◌}
 use mathlib.Core.Bool.{true, false}

@@ -1,5 +1,4 @@
--- `judging::good_ends` meets its contract. The loop's invariant: what is left to search from p on is the answer. The measure is the number
--- of lines left. Assumes nothing.
+-- The loop's invariant in `judging::good_ends`: what is left to search from p on is the answer.
 use Prim.Native.Nat.{◌-◌, ◌≤◌}
 use mathlib.Core.Path.{◌≡◌}
 use Rattle.laws.specs.Fold.{first_from}

@@ -1,5 +1,4 @@
--- `kept::copy_lines` meets its contract. The loop's invariant: the room holds the kept lines before p, from its front. The measure is the
--- number of lines left. Assumes nothing.
+-- `kept::copy_lines` meets its contract. Assumes nothing.
 use Prim.Native.Nat.{◌+◌, ◌*◌, ◌/◌}
 use mathlib.Core.Path.{◌≡◌, refl, sym, ◌∙◌}
 use mathlib.Core.List.{[]}

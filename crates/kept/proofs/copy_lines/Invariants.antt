@@ -1,5 +1,4 @@
--- `kept::copy_lines` meets its contract. The loop's invariant: the room holds the kept lines before p, from its front. The measure is the
--- number of lines left. Assumes nothing.
+-- The loop's invariant in `kept::copy_lines`: the room holds the kept lines before p, from its front.
 use Prim.Native.Nat.{◌≤◌}
 use mathlib.Core.Path.{◌≡◌}
 use mathlib.Core.List.{[]}

@@ -1,5 +1,4 @@
--- `kept::count_kept` meets its contract. The loop's invariant: `kept` counts the nonzero ranks below p. The measure is the number of ranks
--- left. Assumes nothing.
+-- `kept::count_kept` meets its contract. Assumes nothing.
 use Prim.Native.Nat.{ℕ}
 use mathlib.Core.Path.{◌≡◌, refl, sym, ◌∙◌}
 use mathlib.Core.Bool.{Bool, not}

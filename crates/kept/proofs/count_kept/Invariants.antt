@@ -1,5 +1,4 @@
--- `kept::count_kept` meets its contract. The loop's invariant: `kept` counts the nonzero ranks below p. The measure is the number of ranks
--- left. Assumes nothing.
+-- The loop's invariant in `kept::count_kept`: `kept` counts the nonzero ranks below p.
 use Prim.Native.Nat.{◌≤◌}
 use mathlib.Core.Path.{◌≡◌}
 use mathlib.Core.Bool.{not}

@@ -1,4 +1,4 @@
--- `neighbours::count_ends` meets its contract. The loop's invariant: the first e line ends are counted. The measure is count - e. Assumes nothing.
+-- `neighbours::count_ends` meets its contract. Assumes nothing.
 use Prim.Native.Nat.{ℕ}
 use mathlib.Core.Path.{◌≡◌, refl, sym, subst, ◌∙◌}
 use lib.ListN.{length}

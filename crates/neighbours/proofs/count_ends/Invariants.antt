@@ -1,4 +1,4 @@
--- `neighbours::count_ends` meets its contract. The loop's invariant: the first e line ends are counted. The measure is count - e. Assumes nothing.
+-- The loop's invariant in `neighbours::count_ends`: the first e line ends are counted.
 use Prim.Native.Nat.{◌≤◌}
 use Rattle.neighbours.specs.Ranks.{Counted}
 use Rattle.neighbours.proofs.count_ends.Given as goal

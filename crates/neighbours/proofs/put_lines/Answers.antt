@@ -1,5 +1,4 @@
--- `neighbours::put_lines` meets its contract. The loop's invariant: the ends of the lines before place p are laid. The measure is
--- count - p. Assumes nothing.
+-- `neighbours::put_lines` meets its contract. Assumes nothing.
 use Prim.Native.Nat.{ℕ, ◌+◌, ◌*◌}
 use mathlib.Core.Path.{◌≡◌, sym, subst, ◌∙◌}
 use lib.ListN.{length}

@@ -1,5 +1,4 @@
--- `neighbours::put_lines` meets its contract. The loop's invariant: the ends of the lines before place p are laid. The measure is
--- count - p. Assumes nothing.
+-- The loop's invariant in `neighbours::put_lines`: the ends of the lines before place p are laid.
 use Prim.Native.Nat.{◌*◌, ◌≤◌}
 use Rattle.neighbours.specs.Ranks.{Filled}
 use Rattle.neighbours.proofs.put_lines.Given as goal

@@ -1,4 +1,4 @@
--- `neighbours::set_none` meets its contract. The loop's invariant: the first i entries are 0. The measure is count - i. Assumes nothing.
+-- `neighbours::set_none` meets its contract. Assumes nothing.
 use Prim.Native.Nat.{ℕ, ◌+◌}
 use mathlib.Core.Path.{◌≡◌, refl, sym, ap, subst, ◌∙◌}
 use mathlib.Core.List.{List, ◌++◌}

@@ -1,4 +1,4 @@
--- `neighbours::set_none` meets its contract. The loop's invariant: the first i entries are 0. The measure is count - i. Assumes nothing.
+-- The loop's invariant in `neighbours::set_none`: the first i entries are 0.
 use Prim.Native.Nat.{◌≤◌}
 use mathlib.Core.Path.{◌≡◌}
 use mathlib.Core.List.{◌++◌}

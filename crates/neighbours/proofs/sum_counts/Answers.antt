@@ -1,4 +1,4 @@
--- `neighbours::sum_counts` meets its contract. The loop's invariant: the counts below v are summed. The measure is n - v. Assumes nothing.
+-- `neighbours::sum_counts` meets its contract. Assumes nothing.
 use Prim.Native.Nat.{ℕ, ◌+◌}
 use mathlib.Core.Path.{◌≡◌, sym, subst, ◌∙◌}
 use lib.ListN.{set}

@@ -1,4 +1,4 @@
--- `neighbours::sum_counts` meets its contract. The loop's invariant: the counts below v are summed. The measure is n - v. Assumes nothing.
+-- The loop's invariant in `neighbours::sum_counts`: the counts below v are summed.
 use Prim.Native.Nat.{◌≤◌}
 use mathlib.Core.Path.{◌≡◌}
 use Rattle.neighbours.specs.Ranks.{Summed, below}

@@ -1,5 +1,4 @@
--- `parting::lowest_apart` meets its contract. The loop's invariant: the lowest station apart from b on is the lowest of all. The measure
--- is n - b. Assumes nothing.
+-- `parting::lowest_apart` meets its contract. Assumes nothing.
 use Rattle.parting.specs.Looking.{is_apart}
 use Rattle.laws.proofs.Fold.{first_start, first_next, first_here, first_none}
 use mathlib.Core.Path.{◌≡◌, sym, ◌∙◌}

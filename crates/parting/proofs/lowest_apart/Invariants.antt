@@ -1,5 +1,4 @@
--- `parting::lowest_apart` meets its contract. The loop's invariant: the lowest station apart from b on is the lowest of all. The measure
--- is n - b. Assumes nothing.
+-- The loop's invariant in `parting::lowest_apart`: the lowest station apart from b on is the lowest of all.
 use Rattle.parting.specs.Looking.{is_apart}
 use Rattle.laws.specs.Fold.{first_from, lowest}
 use mathlib.Core.Path.{◌≡◌}

@@ -1,5 +1,4 @@
--- `parting::lowest_remaining` meets its contract. The loop's invariant: the lowest station that remains from a on is the lowest of all.
--- The measure is n - a. Assumes nothing.
+-- The loop's invariant in `parting::lowest_remaining`: the lowest station that remains from a on is the lowest of all.
 use Rattle.parting.specs.Standing.{lowest_remaining}
 use Rattle.pieces.specs.Away.{is_gone}
 use Rattle.laws.specs.Fold.{first_from}

@@ -1,5 +1,4 @@
--- `pieces::join_lines` meets its contract. The loop's invariant: the table leads to the definition's names after p lines. The measure is
--- the number of lines left. Assumes nothing.
+-- `pieces::join_lines` meets its contract. Assumes nothing.
 use Prim.Native.Nat.{◌/◌}
 use mathlib.Core.Path.{◌≡◌, refl}
 use native.Mathlib.Omega.{arith}

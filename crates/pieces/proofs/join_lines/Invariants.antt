@@ -1,5 +1,4 @@
--- `pieces::join_lines` meets its contract. The loop's invariant: the table leads to the definition's names after p lines. The measure is
--- the number of lines left. Assumes nothing.
+-- The loop's invariant in `pieces::join_lines`: the table leads to the definition's names after p lines.
 use Prim.Native.Nat.{ℕ, ◌≤◌}
 use mathlib.Core.List.{List}
 use mathlib.Core.Path.{◌≡◌}

@@ -1,5 +1,4 @@
--- `pieces::root_of` meets its contract. The loop's invariant: the table leads to the same names, and v is of the station's piece. The
--- measure is v, which falls at each entry that is not its own. Assumes nothing.
+-- `pieces::root_of` meets its contract. Assumes nothing.
 use mathlib.Core.Logic.{◌≢◌}
 use mathlib.Core.Path.{refl, sym, ◌∙◌}
 use native.Mathlib.Omega.{arith}

@@ -1,5 +1,5 @@
--- `pieces::root_of` meets its contract. The loop's invariant: the table leads to the same names, and v is of the station's piece. The
--- measure is v, which falls at each entry that is not its own. Assumes nothing.
+-- The loop's invariant in `pieces::root_of`: the table leads to the same names, and v is of the station's piece. The measure is v, which falls at
+-- each entry that is not its own.
 use Prim.Native.Nat.{ℕ, ◌<◌}
 use mathlib.Core.List.{List}
 use mathlib.Core.Path.{◌≡◌}

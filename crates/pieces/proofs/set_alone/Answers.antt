@@ -1,5 +1,4 @@
--- `pieces::set_alone` meets its contract. The loop's invariant: the first v entries are their own. The measure is the number of entries
--- left. Assumes nothing.
+-- `pieces::set_alone` meets its contract. Assumes nothing.
 use mathlib.Core.List.{append-nil}
 use mathlib.Core.Path.{◌≡◌, refl, ◌∙◌}
 use native.Mathlib.Omega.{arith}

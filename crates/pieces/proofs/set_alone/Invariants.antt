@@ -1,5 +1,4 @@
--- `pieces::set_alone` meets its contract. The loop's invariant: the first v entries are their own. The measure is the number of entries
--- left. Assumes nothing.
+-- The loop's invariant in `pieces::set_alone`: the first v entries are their own.
 use Prim.Native.Nat.{◌≤◌}
 use mathlib.Core.List.{◌++◌}
 use mathlib.Core.Path.{◌≡◌}

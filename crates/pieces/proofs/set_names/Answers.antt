@@ -1,5 +1,4 @@
--- `pieces::set_names` meets its contract. The loop's invariant: the table leads to the same names, and its first v entries are the names.
--- The measure is the number of entries left. Assumes nothing.
+-- `pieces::set_names` meets its contract. Assumes nothing.
 use mathlib.Core.Path.{refl}
 use native.Mathlib.Omega.{arith}
 use borrow.Author.Rules.{rules}

@@ -1,5 +1,4 @@
--- `pieces::set_names` meets its contract. The loop's invariant: the table leads to the same names, and its first v entries are the names.
--- The measure is the number of entries left. Assumes nothing.
+-- The loop's invariant in `pieces::set_names`: the table leads to the same names, and its first v entries are the names.
 use Prim.Native.Nat.{ℕ, ◌<◌, ◌≤◌}
 use mathlib.Core.List.{List}
 use mathlib.Core.Path.{◌≡◌}

@@ -1,5 +1,4 @@
--- `prune::all_rounds` meets its contract. The loop's invariant: after i rounds the ranks are the definition's, and its orders fill the
--- first i times n places. The measure is k - i. Assumes nothing.
+-- `prune::all_rounds` meets its contract. Assumes nothing.
 use Prim.Native.Nat.{ℕ, ◌+◌, ◌*◌, ◌-◌, ◌≤◌}
 use mathlib.Core.Path.{◌≡◌, refl, sym, ap, ap₂, ◌∙◌}
 use mathlib.Core.List.{[], append-nil}

@@ -1,5 +1,4 @@
--- `prune::all_rounds` meets its contract. The loop's invariant: after i rounds the ranks are the definition's, and its orders fill the
--- first i times n places. The measure is k - i. Assumes nothing.
+-- The loop's invariant in `prune::all_rounds`: after i rounds the ranks are the definition's, and its orders fill the first i times n places.
 use Prim.Native.Nat.{◌*◌, ◌≤◌}
 use mathlib.Core.Path.{◌≡◌}
 use mathlib.Core.List.{[], ◌++◌}

@@ -1,5 +1,4 @@
--- `ranks::clear` meets its contract. The loop's invariant: the first p ranks are 0. The measure is the number of ranks left. Assumes
--- nothing.
+-- `ranks::clear` meets its contract. Assumes nothing.
 use mathlib.Core.Path.{◌≡◌, refl, ◌∙◌}
 use native.Mathlib.Omega.{arith}
 use borrow.Author.Rules.{rules}

@@ -1,5 +1,4 @@
--- `ranks::clear` meets its contract. The loop's invariant: the first p ranks are 0. The measure is the number of ranks left. Assumes
--- nothing.
+-- The loop's invariant in `ranks::clear`: the first p ranks are 0.
 use Prim.Native.Nat.{◌≤◌}
 use mathlib.Core.Path.{◌≡◌}
 use mathlib.Core.List.{◌++◌}

@@ -1,5 +1,4 @@
--- `ranks::rank_rounds` meets its contract. The loop's invariant: after i rounds the ranks are the definition's. The measure is last - i.
--- Assumes nothing.
+-- `ranks::rank_rounds` meets its contract. Assumes nothing.
 use Prim.Native.Nat.{ℕ, ◌/◌}
 use mathlib.Core.Path.{◌≡◌, refl, ap, ◌∙◌}
 use mathlib.Core.List.{List, []}

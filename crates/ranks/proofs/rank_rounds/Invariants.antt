@@ -1,5 +1,4 @@
--- `ranks::rank_rounds` meets its contract. The loop's invariant: after i rounds the ranks are the definition's. The measure is last - i.
--- Assumes nothing.
+-- The loop's invariant in `ranks::rank_rounds`: after i rounds the ranks are the definition's.
 use Prim.Native.Nat.{◌≤◌}
 use mathlib.Core.Path.{◌≡◌}
 use mathlib.Core.List.{[]}

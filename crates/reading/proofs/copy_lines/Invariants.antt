@@ -1,5 +1,4 @@
--- `reading::copy_lines` meets its contract. The loop's invariant: the ends of the records before p are put in from the front. The measure
--- is the number of records left. Assumes nothing.
+-- The loop's invariant in `reading::copy_lines`: the ends of the records before p are put in from the front.
 use Prim.Native.Nat.{◌≤◌}
 use mathlib.Core.Path.{◌≡◌}
 use lib.ListN.{length}

@@ -1,5 +1,4 @@
--- `reading::copy_starts` meets its contract. The loop's invariant: the starting stations of the records before q are put in from the front.
--- The measure is the number of records left. Assumes nothing.
+-- `reading::copy_starts` meets its contract. Assumes nothing.
 use Prim.Native.Nat.{ℕ}
 use mathlib.Core.List.{List}
 use mathlib.Core.Path.{◌≡◌, refl, ap, ◌∙◌}

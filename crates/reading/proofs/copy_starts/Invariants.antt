@@ -1,5 +1,4 @@
--- `reading::copy_starts` meets its contract. The loop's invariant: the starting stations of the records before q are put in from the front.
--- The measure is the number of records left. Assumes nothing.
+-- The loop's invariant in `reading::copy_starts`: the starting stations of the records before q are put in from the front.
 use Prim.Native.Nat.{◌≤◌}
 use mathlib.Core.Path.{◌≡◌}
 use lib.ListN.{length}

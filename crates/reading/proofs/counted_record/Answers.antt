@@ -1,6 +1,7 @@
 -- `reading::counted_record` meets its contract. In each arm the mark is that arm's number, and the return rewrites by the test that led to
 -- it. Assumes nothing.
 use borrow.Author.Tests.{ne_eqb}
+use native.Mathlib.Omega.{arith}
 use Rattle.reading.specs.Reading.{record_counted}
 use Rattle.reading.proofs.counted_record.Goals as goal
 
@@ -22,4 +23,4 @@ returns-else-s-eq16 c = record { «record» = rw (c.in-21586.is, ne_eqb _ _ c.if
 
 pub returns-in_default : goal.returns-in_default
 unfolding record_counted
-returns-in_default c = record { «record» = rw (c.requires.0 c.in_default.in_default-own.rest.0.1 c.in_default.in_default-own.rest.1) }
+returns-in_default c = record { «record» = rw (c.requires.0 (omega arith) (omega arith)) }

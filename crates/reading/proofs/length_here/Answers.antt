@@ -2,6 +2,7 @@
 -- definition computes. Assumes nothing.
 use Rattle.reading.specs.Reading.{length_here}
 use Rattle.reading.proofs.Records.{no_length}
+use native.Mathlib.Omega.{arith}
 use Rattle.reading.proofs.length_here.Goals as goal
 
 pub returns-in-First : goal.returns-in-First
@@ -54,7 +55,4 @@ returns-in-Starts-order-3 c = record { length = rw (c.in-Starts-order-3.is, c.in
 
 pub returns-in_default : goal.returns-in_default
 returns-in_default c =
-    record {
-      length = (let n = c.in_default.in_default-own.rest in
-          no_length c.args.order c.args.mark n.0.0.0.1 n.0.0.1 n.0.1 n.1);
-    }
+    record { length = no_length c.args.order c.args.mark (omega arith) (omega arith) (omega arith) (omega arith) }

@@ -1,5 +1,4 @@
--- `reading::read_records` meets its contract. The loop's invariant: the records passed are whole, and what is left to read is the answer.
--- The measure is the bytes less the records passed. Assumes nothing.
+-- `reading::read_records` meets its contract. Assumes nothing.
 use Prim.Native.Nat.{suc, ◌+◌, ◌-◌}
 use mathlib.Core.Path.{◌≡◌, sym, ap, ◌∙◌}
 use native.Mathlib.Nat.{sub-zero}

@@ -1,5 +1,5 @@
--- `reading::read_records` meets its contract. The loop's invariant: the records passed are whole, and what is left to read is the answer.
--- The measure is the bytes less the records passed. Assumes nothing.
+-- The loop's invariant in `reading::read_records`: the records passed are whole, and what is left to read is the answer. The measure is the bytes
+-- less the records passed.
 use Prim.Native.Nat.{◌+◌, ◌-◌, ◌≤◌}
 use mathlib.Core.Path.{◌≡◌}
 use lib.ListN.{length}

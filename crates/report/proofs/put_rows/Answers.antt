@@ -1,5 +1,4 @@
--- `report::put_rows` meets its contract. The loop's invariant: the rows of the lines before p are written, in at most 64 bytes each. The
--- measure is the number of lines left. Assumes nothing.
+-- `report::put_rows` meets its contract. Assumes nothing.
 use Prim.Native.Nat.{◌/◌}
 use mathlib.Core.Path.{◌≡◌}
 use mathlib.Core.List.{[]}

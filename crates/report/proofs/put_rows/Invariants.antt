@@ -1,5 +1,4 @@
--- `report::put_rows` meets its contract. The loop's invariant: the rows of the lines before p are written, in at most 64 bytes each. The
--- measure is the number of lines left. Assumes nothing.
+-- The loop's invariant in `report::put_rows`: the rows of the lines before p are written, in at most 64 bytes each.
 use Prim.Native.Nat.{◌+◌, ◌≤◌, ◌*◌}
 use mathlib.Core.List.{[]}
 use Rattle.laws.specs.Fold.{up_to}

@@ -1,5 +1,4 @@
--- `report::put_word` meets its contract. The loop's invariant: the first i bytes of the word are written, and the position is i further.
--- The measure is the number of bytes left. Assumes nothing.
+-- `report::put_word` meets its contract. Assumes nothing.
 use mathlib.Core.Path.{◌≡◌}
 use native.Mathlib.Nat.{add-zero}
 use native.Mathlib.Omega.{arith}

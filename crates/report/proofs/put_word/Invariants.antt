@@ -1,5 +1,4 @@
--- `report::put_word` meets its contract. The loop's invariant: the first i bytes of the word are written, and the position is i further.
--- The measure is the number of bytes left. Assumes nothing.
+-- The loop's invariant in `report::put_word`: the first i bytes of the word are written, and the position is i further.
 use Prim.Native.Nat.{◌+◌, ◌≤◌}
 use lib.ListN.{take}
 use Rattle.report.specs.Writing.{Puts}

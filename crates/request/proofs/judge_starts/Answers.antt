@@ -1,5 +1,4 @@
--- `request::judge_starts` meets its contract. The loop's invariant: what is left to judge from q on is the answer. The measure is the
--- number of starts left. Assumes nothing.
+-- `request::judge_starts` meets its contract. Assumes nothing.
 use mathlib.Core.Path.{◌≡◌}
 use mathlib.Core.Bool.{true, false}
 use native.Mathlib.Omega.{arith}

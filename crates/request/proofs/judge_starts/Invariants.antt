@@ -1,5 +1,4 @@
--- `request::judge_starts` meets its contract. The loop's invariant: what is left to judge from q on is the answer. The measure is the
--- number of starts left. Assumes nothing.
+-- The loop's invariant in `request::judge_starts`: what is left to judge from q on is the answer.
 use Prim.Native.Nat.{◌-◌, ◌≤◌}
 use mathlib.Core.Path.{◌≡◌}
 use Rattle.laws.specs.Fold.{first_from}

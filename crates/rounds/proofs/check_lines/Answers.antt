@@ -1,5 +1,4 @@
--- `rounds::check_lines` meets its contract. The loop's invariant: what is left to look at from p on is the verdict. The measure is the
--- number of lines left. Assumes nothing.
+-- `rounds::check_lines` meets its contract. Assumes nothing.
 use Rattle.rounds.specs.Tables.{trees_verdict, all_trees_verdict}
 use Rattle.plans.specs.Verdicts.{Verdict.accepted, is_faulty}
 use lib.ListN.{length}

@@ -1,5 +1,4 @@
--- `rounds::check_lines` meets its contract. The loop's invariant: what is left to look at from p on is the verdict. The measure is the
--- number of lines left. Assumes nothing.
+-- The loop's invariant in `rounds::check_lines`: what is left to look at from p on is the verdict.
 use Rattle.rounds.specs.Tables.{trees_verdict, all_trees_verdict}
 use Rattle.plans.specs.Verdicts.{Verdict.accepted, is_faulty}
 use Prim.Native.Nat.{◌-◌, ◌≤◌}

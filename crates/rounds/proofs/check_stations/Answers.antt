@@ -1,5 +1,4 @@
--- `rounds::check_stations` meets its contract. The loop's invariant: what is left to look at from j on is the verdict. The measure is the
--- number of stations left. Assumes nothing.
+-- `rounds::check_stations` meets its contract. Assumes nothing.
 use Rattle.seen.specs.Tables.{seen}
 use Rattle.rounds.specs.Tables.{seen_verdict, all_seen_verdict}
 use Rattle.plans.specs.Verdicts.{Verdict.accepted, is_faulty}

@@ -1,5 +1,4 @@
--- `scan::scan_all` meets its contract. The loop's invariant: after i scans the state is the definition's, and its order fills the first i
--- places. The measure is n - i. Assumes nothing.
+-- `scan::scan_all` meets its contract. Assumes nothing.
 use Prim.Native.Nat.{ℕ}
 use mathlib.Core.Path.{◌≡◌, refl, sym, ap, ◌∙◌}
 use mathlib.Core.List.{List, [], ◌∷◌, ◌++◌, append-nil}

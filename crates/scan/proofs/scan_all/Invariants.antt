@@ -1,5 +1,4 @@
--- `scan::scan_all` meets its contract. The loop's invariant: after i scans the state is the definition's, and its order fills the first i
--- places. The measure is n - i. Assumes nothing.
+-- The loop's invariant in `scan::scan_all`: after i scans the state is the definition's, and its order fills the first i places.
 use Prim.Native.Nat.{ℕ, ◌≤◌}
 use mathlib.Core.Path.{◌≡◌}
 use mathlib.Core.List.{List, [], ◌++◌}

@@ -1,5 +1,4 @@
--- `scan::scan_station` meets its contract. The loop's invariant: ranks and marks are the definition's after p lines, of which those that do
--- not lead from u change nothing. The measure is the number of lines left. Assumes nothing.
+-- `scan::scan_station` meets its contract. Assumes nothing.
 use Prim.Native.Nat.{ℕ, ◌/◌}
 use mathlib.Core.Path.{◌≡◌, refl, sym, ap, ◌∙◌}
 use mathlib.Core.Logic.{◌≢◌}

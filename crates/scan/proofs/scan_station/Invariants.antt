@@ -1,5 +1,5 @@
--- `scan::scan_station` meets its contract. The loop's invariant: ranks and marks are the definition's after p lines, of which those that do
--- not lead from u change nothing. The measure is the number of lines left. Assumes nothing.
+-- The loop's invariant in `scan::scan_station`: ranks and marks are the definition's after p lines, of which those that do not lead from u change
+-- nothing.
 use Prim.Native.Nat.{ℕ, ◌*◌, ◌≤◌}
 use mathlib.Core.Path.{◌≡◌}
 use lib.ListN.{length}

@@ -1,5 +1,4 @@
--- `seen::empty_tables` meets its contract. The loop's invariant: the first j entries of each table are empty. The measure is n - j.
--- Assumes nothing.
+-- `seen::empty_tables` meets its contract. Assumes nothing.
 use lib.ListN.{length-set}
 use mathlib.Core.Bool.{false}
 use mathlib.Core.Path.{◌≡◌}

@@ -1,5 +1,4 @@
--- `seen::empty_tables` meets its contract. The loop's invariant: the first j entries of each table are empty. The measure is n - j.
--- Assumes nothing.
+-- The loop's invariant in `seen::empty_tables`: the first j entries of each table are empty.
 use lib.ListN.{length, get_or}
 use mathlib.Core.Bool.{false}
 use mathlib.Core.Path.{◌≡◌}

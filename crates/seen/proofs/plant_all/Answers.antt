@@ -1,5 +1,4 @@
--- `seen::plant_all` meets its contract. The loop's invariant: the trees are the definition's after j positions. The measure is the
--- number of positions left. Assumes nothing.
+-- `seen::plant_all` meets its contract. Assumes nothing.
 use Rattle.seen.specs.Tables.{plant, plant_all}
 use Rattle.laws.proofs.Fold.{up_to_more}
 use Rattle.laws.specs.Fold.{up_to}

@@ -1,5 +1,4 @@
--- `seen::plant_all` meets its contract. The loop's invariant: the trees are the definition's after j positions. The measure is the
--- number of positions left. Assumes nothing.
+-- The loop's invariant in `seen::plant_all`: the trees are the definition's after j positions.
 use Rattle.seen.specs.Tables.{plant}
 use Rattle.laws.specs.Fold.{up_to}
 use lib.ListN.{length}

@@ -1,5 +1,4 @@
--- `seen::see_lines` meets its contract. The loop's invariant: the tables are the definition's after p lines. The measure is the number
--- of lines left. Assumes nothing.
+-- `seen::see_lines` meets its contract. Assumes nothing.
 use Rattle.seen.specs.Tables.{seen, see_line, see_lines}
 use Rattle.laws.proofs.Fold.{up_to_more}
 use Rattle.laws.specs.Fold.{up_to}

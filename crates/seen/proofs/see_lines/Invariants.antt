@@ -1,5 +1,4 @@
--- `seen::see_lines` meets its contract. The loop's invariant: the tables are the definition's after p lines. The measure is the number
--- of lines left. Assumes nothing.
+-- The loop's invariant in `seen::see_lines`: the tables are the definition's after p lines.
 use Rattle.seen.specs.Tables.{seen, see_line}
 use Rattle.laws.specs.Fold.{up_to}
 use lib.ListN.{length}

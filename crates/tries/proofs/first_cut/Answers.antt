@@ -1,5 +1,4 @@
--- `tries::first_cut` meets its contract. The loop's invariant: the first station marked from w on is the first of all that are asked.
--- The measure is n - w. Assumes nothing.
+-- `tries::first_cut` meets its contract. Assumes nothing.
 use native.Mathlib.Omega.{arith}
 use mathlib.Core.Path.{refl, sym, ◌∙◌}
 use mathlib.Core.Bool.{false}

@@ -1,5 +1,4 @@
--- `tries::first_cut` meets its contract. The loop's invariant: the first station marked from w on is the first of all that are asked.
--- The measure is n - w. Assumes nothing.
+-- The loop's invariant in `tries::first_cut`: the first station marked from w on is the first of all that are asked.
 use Prim.Native.Nat.{◌-◌}
 use mathlib.Core.Path.{◌≡◌}
 use mathlib.Core.Bool.{false}

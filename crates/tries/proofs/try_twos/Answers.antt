@@ -1,5 +1,4 @@
--- `tries::try_twos` meets its contract. The loop's invariant: what is left to try from first station v on is the answer, and no mark is set. The
--- measure is n - v. Assumes nothing.
+-- `tries::try_twos` meets its contract. Assumes nothing.
 use native.Mathlib.Omega.{arith}
 use Prim.Native.Nat.{ℕ}
 use mathlib.Core.Path.{◌≡◌, sym, ap, ◌∙◌}

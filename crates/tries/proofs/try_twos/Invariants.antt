@@ -1,5 +1,4 @@
--- `tries::try_twos` meets its contract. The loop's invariant: what is left to try from first station v on is the answer, and no mark is set. The
--- measure is n - v. Assumes nothing.
+-- The loop's invariant in `tries::try_twos`: what is left to try from first station v on is the answer, and no mark is set.
 use Prim.Native.Nat.{◌-◌, ◌≤◌}
 use mathlib.Core.Path.{◌≡◌}
 use lib.ListN.{length}

@@ -1,5 +1,4 @@
--- `unite::add_lines` meets its contract. The loop's invariant: what stood, and after it the new lines before p, fill the front of the room.
--- The measure is the number of lines left. Assumes nothing.
+-- `unite::add_lines` meets its contract. Assumes nothing.
 use Prim.Native.Nat.{◌+◌, ◌*◌, ◌/◌}
 use mathlib.Core.Path.{◌≡◌, refl, sym}
 use native.Mathlib.Omega.{arith}

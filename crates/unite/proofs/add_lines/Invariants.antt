@@ -1,5 +1,4 @@
--- `unite::add_lines` meets its contract. The loop's invariant: what stood, and after it the new lines before p, fill the front of the room.
--- The measure is the number of lines left. Assumes nothing.
+-- The loop's invariant in `unite::add_lines`: what stood, and after it the new lines before p, fill the front of the room.
 use Prim.Native.Nat.{◌≤◌}
 use mathlib.Core.Path.{◌≡◌}
 use lib.ListN.{length, take}

@@ -1,5 +1,4 @@
--- `unite::copy_list` meets its contract. The loop's invariant: the first i numbers stand in the front of the room. The measure is how many
--- numbers are left. Assumes nothing.
+-- `unite::copy_list` meets its contract. Assumes nothing.
 use mathlib.Core.Path.{◌≡◌, refl}
 use native.Mathlib.Omega.{arith}
 use borrow.Author.Rules.{rules}

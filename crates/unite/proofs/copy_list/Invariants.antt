@@ -1,5 +1,4 @@
--- `unite::copy_list` meets its contract. The loop's invariant: the first i numbers stand in the front of the room. The measure is how many
--- numbers are left. Assumes nothing.
+-- The loop's invariant in `unite::copy_list`: the first i numbers stand in the front of the room.
 use Prim.Native.Nat.{◌≤◌}
 use mathlib.Core.Path.{◌≡◌}
 use mathlib.Core.List.{◌++◌}

@@ -1,5 +1,4 @@
--- `unite::count_new` meets its contract. The loop's invariant: `new` counts the places before p that the set lacks. The measure is the
--- number of lines left. Assumes nothing.
+-- `unite::count_new` meets its contract. Assumes nothing.
 use Prim.Native.Nat.{◌/◌}
 use mathlib.Core.Path.{◌≡◌, refl, sym, ◌∙◌}
 use native.Mathlib.Omega.{arith}

@@ -1,5 +1,4 @@
--- `unite::count_new` meets its contract. The loop's invariant: `new` counts the places before p that the set lacks. The measure is the
--- number of lines left. Assumes nothing.
+-- The loop's invariant in `unite::count_new`: `new` counts the places before p that the set lacks.
 use Prim.Native.Nat.{◌≤◌}
 use mathlib.Core.Path.{◌≡◌}
 use Rattle.laws.specs.Count.{count}

@@ -1,5 +1,4 @@
--- `writing::write_lines` meets its contract. The loop's invariant: the LN records before p are put in after NW. The measure is the number
--- of lines left. Assumes nothing.
+-- `writing::write_lines` meets its contract. Assumes nothing.
 use Prim.Native.Nat.{ℕ, ◌+◌, ◌*◌, ◌/◌}
 use mathlib.Core.Path.{◌≡◌, refl, ap, ◌∙◌}
 use mathlib.Core.List.{List}

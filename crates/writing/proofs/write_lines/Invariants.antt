@@ -1,5 +1,4 @@
--- `writing::write_lines` meets its contract. The loop's invariant: the LN records before p are put in after NW. The measure is the number
--- of lines left. Assumes nothing.
+-- The loop's invariant in `writing::write_lines`: the LN records before p are put in after NW.
 use Prim.Native.Nat.{◌≤◌}
 use mathlib.Core.Path.{◌≡◌}
 use lib.ListN.{length}

@@ -1,5 +1,4 @@
--- `writing::write_starts` meets its contract. The loop's invariant: the RT records before q are put in after the LN records. The measure is
--- the number of starts left. Assumes nothing.
+-- `writing::write_starts` meets its contract. Assumes nothing.
 use Prim.Native.Nat.{ℕ, ◌+◌, ◌*◌}
 use mathlib.Core.Path.{◌≡◌, refl, ap, ◌∙◌}
 use mathlib.Core.List.{List}

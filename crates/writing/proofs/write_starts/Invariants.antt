@@ -1,5 +1,4 @@
--- `writing::write_starts` meets its contract. The loop's invariant: the RT records before q are put in after the LN records. The measure is
--- the number of starts left. Assumes nothing.
+-- The loop's invariant in `writing::write_starts`: the RT records before q are put in after the LN records.
 use Prim.Native.Nat.{◌+◌, ◌*◌, ◌≤◌}
 use mathlib.Core.Path.{◌≡◌}
 use lib.ListN.{length}
