@@ -15,7 +15,7 @@ use lib.Bits.{bit_and, and_shr, and_mod, and_le_l}
 use lib.ListN.{get_or}
 use Rattle.laws.specs.Fold.{lowest}
 use Rattle.laws.proofs.Fold.{first_at, first_last}
-use Rattle.bits.specs.Sets.{is_in}
+use Rattle.bits.specs.Sets.{is_in, has_bit, Tells}
 
 shr_suc : (word t : ℕ) → word / 2 ^ suc t ≡ word / 2 / 2 ^ t
 shr_suc word t = sym (shr-shr word 1 t ∙ ap (λ (x : ℕ). word / 2 ^ x) (omega arith))
@@ -51,10 +51,6 @@ trailing_low (suc k) word j h = go j (word % 2) refl h (λ i q. trailing_low k (
     go (suc j) zero e l ih = rw (shr_suc word j) (ih j (omega arith))
     go j (suc d) e l ih = absurd (omega arith)
 
--- Whether a word has bit j.
-abbrev has_bit : ℕ → ℕ → Bool
-has_bit word j = eqb (word / 2 ^ j % 2) 1
-
 -- A word of k bits turned over has just the bits that the word has not.
 turned_bit : (k word j : ℕ) → word < 2 ^ k → j < k → ((2 ^ k - 1) - word) / 2 ^ j % 2 ≡ 1 - word / 2 ^ j % 2
 turned_bit zero word j h l = absurd (omega arith)
@@ -84,17 +80,9 @@ and_bit word other j =
     go (suc zero) (suc (suc y)) h l = absurd (omega arith)
     go (suc (suc x)) y h l = absurd (omega arith)
 
--- The bits of `word` tell what the test says of the 64 numbers of word i.
-pub record Tells (test : ℕ → Bool) (i word : ℕ) : Type 0 where
-  pub fits : word < 2 ^ 64
-  pub bit : (j : ℕ) → j < 64 → test (64 * i + j) ≡ has_bit word j
-
 -- No number of the words before i passes.
 pub record NoneBefore (test : ℕ → Bool) (i : ℕ) : Type 0 where
   pub none : (v : ℕ) → v < 64 * i → test v ≡ false
-
-pub none_yet : (test : ℕ → Bool) → NoneBefore test 0
-none_yet test = record { none = λ v h. absurd (omega arith) }
 
 module _ {test : ℕ → Bool} {i word : ℕ} (told : Tells test i word) (before : NoneBefore test i) where
   -- none below the number of bit j, if word i has no lower bit

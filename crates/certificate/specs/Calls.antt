@@ -1,21 +1,18 @@
 -- Pruning lists, copying what is kept and uniting it, as a program calls them: what each call may answer and leave behind.
 -- Assumes nothing.
-use Rattle.std.specs.Prelude.{ℕ, ◌*◌, ◌/◌, ◌≤◌, ◌≡◌, List, length, take}
+use Rattle.std.specs.Prelude.{ℕ, ◌*◌, ◌/◌, ◌≤◌, ◌≡◌, List, length, take, Result, Ok}
 use Rattle.kept.specs.Answers.{CopyAllows}
-use Rattle.kept.specs.declared.Copied.{Copied}
 use Rattle.prune.specs.Answers.{PruneAllows}
-use Rattle.prune.specs.declared.Pruned.{Pruned}
-use Rattle.prune.specs.declared.Pruned.TheVariants.{Kept}
 use Rattle.unite.specs.Union.{united}
 use Rattle.unite.specs.Answers.{UniteAllows}
-use Rattle.unite.specs.declared.United.{United}
+use Rattle.kinds.specs.declared.Refusal.{Refusal}
 
 -- The first lines in a room.
 abbrev pub first_lines : ℕ → List ℕ → List ℕ
 first_lines count room = take (2 * count) room
 
 -- A list is pruned at k; then what is kept is copied by the ranks that pruning left. Every buffer has room, and holds whatever it held before.
-pub record PruneAndCopy (n k : ℕ) (lines starts : List ℕ) (said : Pruned) (copied : Copied) (room' : List ℕ) : Type 0 where
+pub record PruneAndCopy (n k : ℕ) (lines starts : List ℕ) (said : Result ℕ Refusal) (copied : Result ℕ Refusal) (room' : List ℕ) : Type 0 where
   pub ranks : List ℕ
   pub orders : List ℕ
   pub ranks' : List ℕ
@@ -25,14 +22,14 @@ pub record PruneAndCopy (n k : ℕ) (lines starts : List ℕ) (said : Pruned) (c
   pub copies : CopyAllows lines ranks' room copied room'
   pub ranks_fit : length lines / 2 ≤ length ranks
   pub orders_fit : k * n ≤ length orders
-  pub room_fits : (count : ℕ) → said ≡ Kept count → 2 * count ≤ length room
+  pub room_fits : (count : ℕ) → said ≡ Ok count → 2 * count ≤ length room
 
 -- Two lists are pruned, x lines of the one and y of the other are kept and copied, and what was copied is united in a room that is long enough.
-pub record UnionCalls (n k : ℕ) (a b s t : List ℕ) (x y : ℕ) (copied₁ copied₂ : Copied) (said : United) (room' : List ℕ) : Type 0 where
+pub record UnionCalls (n k : ℕ) (a b s t : List ℕ) (x y : ℕ) (copied₁ copied₂ : Result ℕ Refusal) (said : Result ℕ Refusal) (room' : List ℕ) : Type 0 where
   pub room₁ : List ℕ
   pub room₂ : List ℕ
   pub room : List ℕ
-  pub first : PruneAndCopy n k a s (Kept x) copied₁ room₁
-  pub second : PruneAndCopy n k b t (Kept y) copied₂ room₂
+  pub first : PruneAndCopy n k a s (Ok x) copied₁ room₁
+  pub second : PruneAndCopy n k b t (Ok y) copied₂ room₂
   pub unites : UniteAllows n (first_lines x room₁) (first_lines y room₂) room said room'
   pub room_fits : length (united (first_lines x room₁) (first_lines y room₂)) ≤ length room

@@ -1,10 +1,9 @@
 -- How an answer crosses to C: a number, 0 for what is not refused, and the refusal's place and list, 0 otherwise.
 -- Assumes nothing.
-use Rattle.std.specs.Prelude.{ℕ, Bool, true, false, List, []}
+use Rattle.std.specs.Prelude.{ℕ, Bool, true, false, List, [], Result, Ok, Err}
 use Rattle.kinds.specs.Answers.{Answer, Answer.given, Answer.refused}
 use Rattle.reading.specs.Reading.{Facts}
-use Rattle.report.specs.declared.Written.{Written}
-use Rattle.report.specs.declared.Written.TheVariants.{Bytes, TooShort}
+use Rattle.report.specs.declared.TooShort.{TooShort}
 use Rattle.parting.specs.Standing.{Standing, Standing.stands, Standing.weak}
 use Rattle.plans.specs.Verdicts.{Kind, Kind.A, Kind.B, Kind.C, Kind.D, Kind.E, Verdict, Verdict.accepted, Verdict.faulty}
 
@@ -96,10 +95,10 @@ starts_said (given facts) = facts.starts
 starts_said (refused number place list) = 0
 
 -- A text that was written, or refusal 5 where its buffer is too short.
-abbrev pub written_number : Written → ℕ
-written_number (Bytes count) = 0
-written_number TooShort = 5
+abbrev pub written_number : Result ℕ TooShort → ℕ
+written_number (Ok count) = 0
+written_number (Err short) = 5
 
-abbrev pub written_count : Written → ℕ
-written_count (Bytes count) = count
-written_count TooShort = 0
+abbrev pub written_count : Result ℕ TooShort → ℕ
+written_count (Ok count) = count
+written_count (Err short) = 0

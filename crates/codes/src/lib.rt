@@ -2,35 +2,34 @@
 #![tactic(auto)]
 
 ghost use Rattle.std.specs.Prelude.{◌≡◌, length, get_or};
-ghost use Rattle.kinds.specs.Answers.{Answer.given};
-ghost use Rattle.kinds.specs.Refusals.{number_of, place_of, list_of};
+ghost use Rattle.kinds.specs.Answers.{Answer.given, answer_of};
 ghost use Rattle.entries.specs.Answers.{kind_of, fault_place, verdict_said};
 ghost use Rattle.parting.specs.Answers.{spot_stations, found_standing};
-ghost use Rattle.codes.specs.Codes.{letter_number, kind_said, round_said, fault_place_said, weak_said, spot_said, one_said, two_said, written_number, written_count};
+ghost use Rattle.codes.specs.Codes.{number_said, place_said, list_said, letter_number, kind_said, round_said, fault_place_said, weak_said, spot_said, one_said, two_said, written_number, written_count};
 
-use entries::{Fault, FaultKind, Verdict};
+use entries::{FaultKind, Verdict};
 use kinds::{Refusal, Station, list_of, number_of, place_of};
-use parting::{Found, Spot};
-use report::Written;
+use parting::{Spot, WeakSpot};
+use report::TooShort;
 
-// A refusal: its number returned, its place and its list written.
-pub fn say_refusal(refusal: Refusal, place: &mut usize, list: &mut u8) -> u8
-    ensures number { result ≡ number_of refusal }
-    ensures place { place.new ≡ place_of refusal }
-    ensures list { list.new ≡ list_of refusal }
+// Whether an answer is refused: 0, at no place, of no list, or the refusal's number, with its place and its list written.
+pub fn say<T>(answer: &Result<T, Refusal>, place: &mut usize, list: &mut u8) -> u8
+    ensures number { result ≡ number_said (answer_of answer.now) }
+    ensures place { place.new ≡ place_said (answer_of answer.now) }
+    ensures list { list.new ≡ list_said (answer_of answer.now) }
 {
-    *place = place_of(refusal).0;
-    *list = list_of(refusal);
-    number_of(refusal)
-}
-
-// What is not refused: 0, at no place, of no list.
-pub fn say_taken(place: &mut usize, list: &mut u8) -> u8
-    ensures said { (result ≡ 0) × (place.new ≡ 0) × (list.new ≡ 0) }
-{
-    *place = 0;
-    *list = 0;
-    0
+    match answer {
+        Ok(_) => {
+            *place = 0;
+            *list = 0;
+            0
+        }
+        Err(refusal) => {
+            *place = place_of(*refusal).0;
+            *list = list_of(*refusal);
+            number_of(*refusal)
+        }
+    }
 }
 
 // The number of a fault's kind: 1 for A to 5 for E.
@@ -63,36 +62,23 @@ fn fault_place(kind: FaultKind) -> FaultPlace
     }
 }
 
-// A fault: its kind, its round and its place are written.
-fn say_fault(fault: Fault, kind: &mut u8, round: &mut u8, at: &mut usize)
-    ensures kind { kind.new ≡ letter_number (kind_of fault.kind) }
-    ensures round { round.new ≡ fault.round.0 }
-    ensures at { at.new ≡ fault_place fault.kind }
-{
-    let found = fault.kind;
-    *kind = kind_number(found);
-    *round = fault.round.0;
-    *at = fault_place(found).0;
-}
-
-// No fault.
-pub fn say_accepted(kind: &mut u8, round: &mut u8, at: &mut usize)
-    ensures said { (kind.new ≡ 0) × (round.new ≡ 0) × (at.new ≡ 0) }
-{
-    *kind = 0;
-    *round = 0;
-    *at = 0;
-}
-
-// What the check found.
+// What the check found: a fault's kind, its round and its place are written, 0 where there is none.
 pub fn say_verdict(verdict: Verdict, kind: &mut u8, round: &mut u8, at: &mut usize)
     ensures kind { kind.new ≡ kind_said (given (verdict_said verdict)) }
     ensures round { round.new ≡ round_said (given (verdict_said verdict)) }
     ensures at { at.new ≡ fault_place_said (given (verdict_said verdict)) }
 {
     match verdict {
-        Verdict::Accepted => say_accepted(kind, round, at),
-        Verdict::Faulty(fault) => say_fault(fault, kind, round, at),
+        Verdict::Accepted => {
+            *kind = 0;
+            *round = 0;
+            *at = 0;
+        }
+        Verdict::Faulty(fault) => {
+            *kind = kind_number(fault.kind);
+            *round = fault.round.0;
+            *at = fault_place(fault.kind).0;
+        }
     }
 }
 
@@ -140,28 +126,9 @@ fn say_spot(spot: Spot, size: &mut u8, first: &mut u16, second: &mut u16)
     *second = spot_second(spot).0;
 }
 
-// No spot, and nothing parted.
-pub fn say_stands(
-    weak: &mut u8,
-    size: &mut u8,
-    first: &mut u16,
-    second: &mut u16,
-    one: &mut u16,
-    two: &mut u16,
-)
-    ensures weak { weak.new ≡ 0 }
-    ensures spot { (size.new ≡ 0) × (first.new ≡ 0) × (second.new ≡ 0) }
-    ensures parted { (one.new ≡ 0) × (two.new ≡ 0) }
-{
-    *weak = 0;
-    say_spot(Spot::Empty, size, first, second);
-    *one = 0;
-    *two = 0;
-}
-
-// What the search found.
+// What the search found: the spot and the two stations that it parts, all 0 where the network stands.
 pub fn say_found(
-    found: Found,
+    found: Option<WeakSpot>,
     weak: &mut u8,
     size: &mut u8,
     first: &mut u16,
@@ -177,28 +144,32 @@ pub fn say_found(
     ensures two { two.new ≡ two_said (given (found_standing found)) }
 {
     match found {
-        Found::Stands => say_stands(weak, size, first, second, one, two),
-        Found::Weak(spot) => {
+        None => {
+            *weak = 0;
+            say_spot(Spot::Empty, size, first, second);
+            *one = 0;
+            *two = 0;
+        }
+        Some(found) => {
             *weak = 1;
-            let stations = spot.spot;
-            say_spot(stations, size, first, second);
-            *one = spot.one.0;
-            *two = spot.two.0;
+            say_spot(found.spot, size, first, second);
+            *one = found.one.0;
+            *two = found.two.0;
         }
     }
 }
 
 // What a text routine says: 0 and the count of bytes, or refusal 5 and none.
-pub fn say_written(written: Written, count: &mut usize) -> u8
+pub fn say_written(written: Result<usize, TooShort>, count: &mut usize) -> u8
     ensures number { result ≡ written_number written }
     ensures count { count.new ≡ written_count written }
 {
     match written {
-        Written::Bytes(bytes) => {
+        Ok(bytes) => {
             *count = bytes;
             0
         }
-        Written::TooShort => {
+        Err(TooShort) => {
             *count = 0;
             5
         }

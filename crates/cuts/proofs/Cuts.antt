@@ -1,37 +1,19 @@
 -- A pass over a whole network: it comes to every station, so what it says of each is right.
 -- Assumes nothing.
-use Prim.Native.Nat.{ℕ, ◌+◌, ◌<◌}
-use mathlib.Core.Path.{◌≡◌, refl, sym, subst, ◌∙◌}
+use Prim.Native.Nat.{ℕ}
+use mathlib.Core.Path.{◌≡◌, refl, sym, subst}
 use mathlib.Core.Logic.{◌↔◌}
-use mathlib.Core.Bool.{Bool, true, false, true≢false}
+use mathlib.Core.Bool.{Bool, true, false}
 use mathlib.Core.List.{List}
-use native.Mathlib.Decide.{ℕ_discrete}
 use native.Mathlib.Omega.{arith}
 use lib.ListN.{length, get_or}
 use Rattle.network.specs.Chains.{Chain.here, Chain.step}
 use Rattle.network.proofs.Chains.{chain_start}
 use Rattle.pieces.specs.Joined.{Remains, Joined, Whole, Parted}
-use Rattle.pieces.specs.Away.{is_gone}
 use Rattle.neighbours.specs.Near.{Near}
 use Rattle.cuts.specs.Cuts.{and_away, SaysCuts}
-use Rattle.cuts.specs.Passes.{Seen, New, Start, Ended, Unseen, Visited, first_depth}
+use Rattle.cuts.specs.Passes.{Seen, New, Start, Ended, Unseen, Visited}
 use Rattle.cuts.proofs.Seen.{besides_stays, besides_other}
-
--- A table of first depths is one of stations not seen.
-pub first_unseen : (n : ℕ) (gone : List Bool) (s : List ℕ) → ((v : ℕ) → v < n → get_or s v 0 ≡ first_depth (is_gone gone v)) → Unseen n (is_gone gone) s
-first_unseen n gone s h =
-    record {
-      gone = λ v l e. let k : get_or s v 0 ≡ 65535 = rw e at (h v l) in omega arith;
-      fresh = λ v r. rw r.stays at (h v r.station);
-    }
-
--- Where no station remains there is nothing to say.
-pub none_says : (n : ℕ) (lines : List ℕ) (away : ℕ → Bool) (cut : List Bool) → ((v : ℕ) → v < n → away v ≡ true) → SaysCuts n lines away cut
-none_says n lines away cut h =
-    record {
-      parted = λ w r e. absurd (true≢false (sym (h w r.station) ∙ r.stays));
-      whole = λ w r e. absurd (true≢false (sym (h w r.station) ∙ r.stays));
-    }
 
 module _ (n : ℕ) (lines : List ℕ) (away : ℕ → Bool) where
   -- A pass may begin at any station that remains.
@@ -83,14 +65,6 @@ visit_says n begins near away s t cut₀ cut a low e un r vis lines N whole =
     (subst (λ (x : ℕ). Near x lines begins near) (sym e) N)
     (subst (λ (x : ℕ). Start x lines away s a 1) (sym e) (pass_starts n lines away s un a r))))
     whole
-
--- One station more is taken away.
-pub gone_more : (gone : List Bool) (a : ℕ) → ((i : ℕ) → i < a → is_gone gone i ≡ true) → is_gone gone a ≡ true → (i : ℕ) → i < a + 1 → is_gone gone i ≡ true
-gone_more gone a h e i l = go (ℕ_discrete i a)
-  where
-    go : Dec (i ≡ a) → is_gone gone i ≡ true
-    go (yes f) = rw f e
-    go (no m) = h i (omega arith)
 
 -- THEOREM. Such a table says true exactly of the cut stations.
 pub cut_exactly : (n : ℕ) (lines : List ℕ) (away : ℕ → Bool) (cut : List Bool) → SaysCuts n lines away cut → (w : ℕ) → Remains n away w

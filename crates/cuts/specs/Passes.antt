@@ -4,7 +4,7 @@ use Rattle.std.specs.Prelude.{ℕ, ◌<◌, ◌≤◌, ◌≡◌, ◌≢◌, Boo
 use Rattle.laws.specs.Count.{count}
 use Rattle.network.specs.Chains.{Chain}
 use Rattle.pieces.specs.Joined.{Remains, Joined, Parted}
-use Rattle.neighbours.specs.Near.{Line, Near, Bound}
+use Rattle.neighbours.specs.Near.{Line, Near}
 use Rattle.cuts.specs.Cuts.{and_away}
 
 -- A station that the pass has come to: it remains, and has a depth. (A station that is taken away has a depth that none else has.)
@@ -73,12 +73,6 @@ pub record Mid (n : ℕ) (lines : List ℕ) (away : ℕ → Bool) (begins near s
 -- How many stations have no depth.
 unfoldable pub unseen : List ℕ → ℕ
 unseen depths = count (length depths) (λ v. eqb (get_or depths v 0) 0)
-
--- What a visit asks of its tables: room, and neighbours that are stations.
-pub record Laid (begins near depths : List ℕ) (cut : List Bool) : Type 0 where
-  pub most : length depths ≤ 1024
-  pub bound : Bound (length depths) begins near
-  pub marks : length cut ≡ length depths
 
 -- The depth of a station before a pass.
 abbrev pub first_depth : Bool → ℕ

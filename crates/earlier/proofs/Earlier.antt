@@ -20,10 +20,6 @@ use Rattle.earlier.specs.Pairs.{pairs_of, pair_of, Remembers, remembered, mark_l
 use Rattle.earlier.specs.Earlier.{stood_earlier}
 use Rattle.earlier.proofs.Pairs.{remember_none, remember_more}
 
--- A list that is proper over some stations is proper over more.
-pub proper_wider : {m n : ℕ} (lines : List ℕ) → m ≤ n → Proper (network m lines) → Proper (network n lines)
-proper_wider lines h P = record { one_in = λ p l. omega (arith, P.one_in p l); two_in = λ p l. omega (arith, P.two_in p l); apart = P.apart }
-
 -- One line more stood before.
 stood_more : (lines : List ℕ) (p a b : ℕ) → stood_before lines (suc p) a b ≡ (stood_before lines p a b || same_ends a b (end_one lines p) (end_two lines p))
 stood_more lines p a b = rw (add-one p) at (any_more (λ q. same_ends a b (end_one lines q) (end_two lines q)) p)

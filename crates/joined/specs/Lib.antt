@@ -1,5 +1,4 @@
 pub mod Asking
 pub mod Rising
 pub mod Right
-pub mod Answers
 pub mod Rows

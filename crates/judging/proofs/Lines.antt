@@ -9,10 +9,13 @@ use borrow.Author.Tests.{lt-ltb}
 use lib.Dec.{ltb}
 use lib.ListN.{length, take}
 use lib.Seq.{get_or-take, length-take-le}
+use Rattle.std.specs.Prelude.{Result, Ok, Err}
+use Rattle.std.specs.Result.{is_err}
 use Rattle.laws.specs.Fold.{first_from, lowest}
 use Rattle.laws.proofs.Fold.{first_at, first_last, first_same, lowest_most, lowest_low, lowest_high}
 use Rattle.bits.specs.Sets.{is_in}
-use Rattle.kinds.specs.Answers.{Answer.refused, taken, is_refused}
+use Rattle.kinds.specs.Answers.{Answer.refused, answer_of, taken, is_refused}
+use Rattle.kinds.specs.declared.Refusal.{Refusal}
 use Rattle.network.specs.Lines.{end_one, end_two, network, Proper}
 use Rattle.network.specs.Faults.{EndsGood}
 use Rattle.network.specs.Judging.{same_ends, stood_before, ends_judged, line_judged, lines_judged}
@@ -24,6 +27,11 @@ module _ (list n : ℕ) (lines : List ℕ) where
   pub good_most : good_ends list n lines ≤ length lines / 2
   unfolding good_ends
   good_most = lowest_most (bad_ends list n lines) (length lines / 2)
+
+-- What a routine says is refused just where it is an error.
+pub err_refused : {A : Type 0} (r : Result A Refusal) → is_err r ≡ is_refused (answer_of r)
+err_refused (Ok value) = refl
+err_refused (Err r) = refl
 
 -- As many words as have a bit for each of m places say the same of them as all words.
 pub part_marks : (m : ℕ) (lines again : List ℕ) (words : ℕ) → m ≤ 64 * words → Marks m lines again → Marks m lines (take words again)

@@ -1,48 +1,55 @@
 -- The laws of copying: how many numbers are copied, which ranks matter, when it is not refused, and what two stores make of a buffer filled from
 -- the front.
 -- Assumes nothing.
-use Prim.Native.Nat.{ℕ, zero, suc, ◌+◌, ◌*◌, ◌/◌, ◌≤◌}
+use Prim.Native.Nat.{ℕ, zero, suc, ◌+◌, ◌*◌, ◌/◌, ◌<◌, ◌≤◌}
 use mathlib.Core.Path.{◌≡◌, refl, sym, ap, ◌∙◌}
 use mathlib.Core.Bool.{Bool, true, false}
-use mathlib.Core.List.{List, [], ◌∷◌, ◌++◌, append_assoc}
-use mathlib.Core.Logic.{◌≢◌}
+use mathlib.Core.List.{List, [], ◌∷◌, ◌++◌, append_assoc, append-nil}
 use native.Mathlib.Omega.{arith}
-use borrow.Author.Tests.{eq-eqb, ne_eqb, le-ltb}
-use lib.ListN.{length, get_or, set, take, drop, length-append, get_or-append}
+use borrow.Author.Tests.{le-ltb}
+use lib.ListN.{length, set, take, drop, length-append, get_or-append}
 use lib.Seq.{length-take-le, get_or-take, take_at}
 use Rattle.laws.specs.Fold.{pick, up_to}
 use Rattle.laws.specs.Count.{bit, count}
-use Rattle.laws.proofs.Count.{total_same}
+use Rattle.laws.proofs.Fold.{up_to_more}
+use Rattle.laws.proofs.Count.{total_same, count_more, count_rise}
 use Rattle.laws.proofs.Lists.{store_next}
 use Rattle.kinds.specs.Answers.{Answer.given}
 use Rattle.limits.specs.Limits.{room_judged}
 use Rattle.network.specs.Lines.{end_one, end_two, Within}
 use Rattle.network.proofs.Sound.{within_taken}
-use Rattle.kept.specs.Kept.{is_kept, kept_count, copy_line, kept_lines, kept_of, copy_answer}
+use Rattle.kept.specs.Filled.{Filled}
+use Rattle.kept.specs.Kept.{is_kept, kept_count, put_line, chosen_lines, copy_line, kept_lines, kept_of, copy_answer}
 
--- By its rank, a line is kept and copied, or it is neither.
-pub kept_some : (ranks : List ℕ) (p : ℕ) → get_or ranks p 0 ≢ 0 → is_kept ranks p ≡ true
-kept_some ranks p m = rw (ne_eqb (get_or ranks p 0) 0 m)
-
-module _ (lines ranks : List ℕ) (p : ℕ) where
-  pub copy_none : (copied : List ℕ) → get_or ranks p 0 ≡ 0 → copy_line lines ranks p copied ≡ copied
-  unfolding copy_line
-  copy_none copied e = rw (eq-eqb (get_or ranks p 0) 0 e)
-
-  pub copy_some : (copied : List ℕ) → get_or ranks p 0 ≢ 0 → copy_line lines ranks p copied ≡ copied ++ (end_one lines p ∷ (end_two lines p ∷ []))
-  unfolding copy_line
-  copy_some copied m = rw (ne_eqb (get_or ranks p 0) 0 m)
-
--- Two numbers for each kept line.
-pub copy_size : (lines ranks : List ℕ) (p : ℕ) → length (up_to (copy_line lines ranks) [] p) ≡ 2 * count p (is_kept ranks)
-unfolding up_to copy_line
-copy_size lines ranks zero = refl
-copy_size lines ranks (suc p) = go (is_kept ranks p) (up_to (copy_line lines ranks) [] p) (copy_size lines ranks p)
+-- Two numbers for each chosen line.
+put_size : (chosen : ℕ → Bool) (lines : List ℕ) (p : ℕ) → length (up_to (put_line chosen lines) [] p) ≡ 2 * count p chosen
+unfolding up_to
+put_size chosen lines zero = refl
+put_size chosen lines (suc p) = go (chosen p) (up_to (put_line chosen lines) [] p) (put_size chosen lines p)
   where
-    go : (b : Bool) (copied : List ℕ) → length copied ≡ 2 * count p (is_kept ranks)
-        → length (pick b (copied ++ (end_one lines p ∷ (end_two lines p ∷ []))) copied) ≡ 2 * (bit b + count p (is_kept ranks))
-    go true copied e = simp length-append (omega arith)
-    go false copied e = omega arith
+    go : (b : Bool) (front : List ℕ) → length front ≡ 2 * count p chosen
+        → length (pick b (front ++ (end_one lines p ∷ (end_two lines p ∷ []))) front) ≡ 2 * (bit b + count p chosen)
+    go true front e = simp length-append (omega arith)
+    go false front e = omega arith
+
+pub chosen_length : (chosen : ℕ → Bool) (lines : List ℕ) → length (chosen_lines chosen lines) ≡ 2 * count (length lines / 2) chosen
+unfolding chosen_lines
+chosen_length chosen lines = put_size chosen lines (length lines / 2)
+
+-- What stands before the first line stays in front.
+pub put_behind : (chosen : ℕ → Bool) (lines stands : List ℕ) (p : ℕ) → up_to (put_line chosen lines) stands p ≡ stands ++ up_to (put_line chosen lines) [] p
+unfolding up_to
+put_behind chosen lines stands zero = sym (append-nil stands)
+put_behind chosen lines stands (suc p) = rw (put_behind chosen lines stands p) (go (chosen p) (up_to (put_line chosen lines) [] p))
+  where
+    go : (b : Bool) (front : List ℕ) → pick b ((stands ++ front) ++ (end_one lines p ∷ (end_two lines p ∷ []))) (stands ++ front)
+        ≡ stands ++ pick b (front ++ (end_one lines p ∷ (end_two lines p ∷ []))) front
+    go true front = append_assoc stands front (end_one lines p ∷ (end_two lines p ∷ []))
+    go false front = refl
+
+pub copy_size : (lines ranks : List ℕ) (p : ℕ) → length (up_to (copy_line lines ranks) [] p) ≡ 2 * count p (is_kept ranks)
+unfolding copy_line
+copy_size lines ranks p = put_size (is_kept ranks) lines p
 
 pub kept_length : (lines ranks : List ℕ) → length (kept_lines lines ranks) ≡ 2 * kept_of lines ranks
 unfolding kept_lines kept_of
@@ -76,10 +83,29 @@ unfolding copy_answer room_judged
 copy_given {n} lines ranks room within ranked fits =
     rw ((within_taken 0 n lines within).1, le-ltb (length ranks) (length lines / 2) ranked, le-ltb room (2 * kept_of lines ranks) fits)
 
--- A kept line's two ends, stored after what was copied.
-pub store_two : (front before : List ℕ) (at a b : ℕ) → length front ≡ at → at + 2 ≤ length before
+-- A line's two ends, stored after what was put before.
+store_two : (front before : List ℕ) (at a b : ℕ) → length front ≡ at → at + 2 ≤ length before
     → set (set (front ++ drop at before) at a) (at + 1) b ≡ (front ++ (a ∷ (b ∷ []))) ++ drop (at + 2) before
 store_two front before at a b e h =
     let two : at + 1 + 1 ≡ at + 2 = omega arith in
     let one : length (front ++ (a ∷ [])) ≡ at + 1 = simp length-append (omega arith) in
     rw (store_next front before at a e (omega arith), store_next (front ++ (a ∷ [])) before (at + 1) b one (omega arith), two, append_assoc front (a ∷ []) (b ∷ []))
+
+-- The chosen lines before p fill the front of a room.
+module _ (chosen : ℕ → Bool) (lines : List ℕ) {before : List ℕ} {p at : ℕ} {room : List ℕ} (filled : Filled (up_to (put_line chosen lines) [] p) before at room) where
+  -- a line more that is chosen has its two places
+  pub two_left : (m : ℕ) → p < m → chosen p ≡ true → at + 2 ≤ 2 * count m chosen
+  two_left m l e = omega (arith, filled.size, put_size chosen lines p, rw e at (count_more chosen p), count_rise chosen (p + 1) m (omega arith))
+
+  -- its two ends are stored behind them
+  pub put_more : chosen p ≡ true → at + 2 ≤ length before
+      → Filled (up_to (put_line chosen lines) [] (p + 1)) before (at + 2) (set (set room at (end_one lines p)) (at + 1) (end_two lines p))
+  put_more e h =
+      rw (up_to_more (put_line chosen lines) [] p, e) (record {
+        size = simp length-append (omega (arith, filled.size));
+        is = rw filled.is (store_two (up_to (put_line chosen lines) [] p) before at (end_one lines p) (end_two lines p) filled.size h);
+      })
+
+  -- a line that is not chosen changes nothing
+  pub put_same : chosen p ≡ false → Filled (up_to (put_line chosen lines) [] (p + 1)) before at room
+  put_same e = rw (up_to_more (put_line chosen lines) [] p, e) filled

@@ -1,4 +1,4 @@
--- A buffer that is filled from the front, as the copying helpers speak of it.
+-- A buffer that is filled from the front, as the loop that puts lines into it speaks of it.
 -- Assumes nothing.
 use Rattle.std.specs.Prelude.{ℕ, ◌≡◌, List, ◌++◌, length, drop}
 

@@ -1,4 +1,4 @@
--- The kept lines of a list, those of nonzero rank: how many, and their ends, copied out in list order.
+-- The ends of chosen lines of a list, in list order, and of the kept lines, those of nonzero rank: how many there are, and copying them out.
 -- Assumes nothing.
 use Rattle.std.specs.Prelude.{ℕ, ◌*◌, ◌/◌, Bool, not, ◌||◌, List, [], ◌∷◌, ◌++◌, length, get_or, drop, ltb, eqb}
 use Rattle.laws.specs.Fold.{pick, up_to}
@@ -15,9 +15,17 @@ is_kept ranks p = not (eqb (get_or ranks p 0) 0)
 unfoldable pub kept_count : List ℕ → ℕ
 kept_count ranks = count (length ranks) (is_kept ranks)
 
+-- The line at place p, after those put before it, if it is chosen.
+abbrev pub put_line : (ℕ → Bool) → List ℕ → ℕ → List ℕ → List ℕ
+put_line chosen lines p front = pick (chosen p) (front ++ (end_one lines p ∷ (end_two lines p ∷ []))) front
+
+-- The ends of the chosen lines, in list order.
+unfoldable pub chosen_lines : (ℕ → Bool) → List ℕ → List ℕ
+chosen_lines chosen lines = up_to (put_line chosen lines) [] (length lines / 2)
+
 -- The line at place p, after those copied before it, if it is kept.
 unfoldable pub copy_line : List ℕ → List ℕ → ℕ → List ℕ → List ℕ
-copy_line lines ranks p copied = pick (is_kept ranks p) (copied ++ (end_one lines p ∷ (end_two lines p ∷ []))) copied
+copy_line lines ranks = put_line (is_kept ranks) lines
 
 -- The ends of the kept lines, in list order.
 unfoldable pub kept_lines : List ℕ → List ℕ → List ℕ

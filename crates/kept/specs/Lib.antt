@@ -1,4 +1,5 @@
 pub mod Kept
 pub mod Answers
+pub mod Chosen
 pub mod Filled
 pub mod Rows

@@ -1,64 +1,50 @@
-// The kept lines of a list: counted, and copied out.
+// The kept lines of a list: counted, and copied out; and copying out whichever lines of a list are chosen.
 #![tactic(auto)]
 
-ghost use Rattle.std.specs.Prelude.{◌≡◌, true, List, ◌++◌, ℕ, ◌+◌, ◌*◌, ◌/◌, ◌≤◌, ◌<◌, length, drop};
+ghost use Rattle.std.specs.Prelude.{◌≡◌, Bool, ◌++◌, ℕ, ◌*◌, ◌/◌, ◌≤◌, ◌<◌, length, drop};
+ghost use Rattle.laws.specs.Count.{count};
+ghost use Rattle.kinds.specs.declared.Place.{Place};
 ghost use Rattle.kept.specs.Answers.{CopyAllows};
-ghost use Rattle.kept.specs.Kept.{is_kept, kept_count, copy_line, kept_lines, kept_of};
-ghost use Rattle.kept.specs.Filled.{Filled};
+ghost use Rattle.kept.specs.Chosen.{Chooses};
+ghost use Rattle.kept.specs.Kept.{chosen_lines, kept_count, kept_of};
 
-use kinds::{Judged, LineList, Place, Refusal};
+use kinds::{LineList, Place, Refusal};
 use limits::judge_length;
-use network::line_at;
-
-// What copying says: how many lines it wrote, or why it refuses.
-#[derive(Clone, Copy)]
-pub enum Copied {
-    Lines(usize),
-    Refused(Refusal),
-}
+use network::{line_at, line_places};
 
 // The number of nonzero ranks.
 pub fn count_kept(ranks: &[u8]) -> usize
     ensures count { result ≡ kept_count ranks.now }
 {
-    let count = ranks.len();
     let mut kept = 0;
-    for p in 0..count {
-        if ranks[p] != 0 {
+    for rank in ranks {
+        if *rank != 0 {
             kept += 1;
         }
     }
     kept
 }
 
-// The line at a place is put after the numbers copied so far, if it is kept; how many numbers there are then.
-fn copy_line(lines: &[u16], ranks: &[u8], place: Place, room: &mut [u16], at: usize) -> usize
-    requires { (place.0 < length ranks.now) × (at ≤ length room.old) × (is_kept ranks.now place.0 ≡ true → at + 2 ≤ length room.old) × (place.0 < length lines.now / 2) }
-    ensures copied { (front before : List ℕ) → length before ≡ length room.old → Filled front before at room.old → Filled (copy_line lines.now ranks.now place.0 front) before result room.new }
+// Puts the chosen lines of a list, in list order, at the front of the room; what stands behind them stays.
+pub fn put_lines<F: Fn(Place) -> bool>(lines: &[u16], chosen: F, room: &mut [u16])
+    requires few { length lines.now ≤ 16384 }
+    requires asked { (place : Place) → place.0 < length lines.now / 2 → F.pre chosen place }
+    requires fits { (test : ℕ → Bool) × Chooses (F.post chosen) test (length lines.now / 2) × (2 * count (length lines.now / 2) test ≤ length room.old) }
+    ensures put { (test : ℕ → Bool) → Chooses (F.post chosen) test (length lines.now / 2) → room.new ≡ chosen_lines test lines.now ++ drop (length (chosen_lines test lines.now)) room.old }
 {
-    let p = place.0 as usize;
-    if ranks[p] == 0 {
-        return at;
-    }
-    let line = line_at(lines, place);
-    room[at] = line.one.0;
-    room[at + 1] = line.two.0;
-    at + 2
-}
-
-// The kept lines, in list order.
-fn copy_lines(lines: &[u16], ranks: &[u8], room: &mut [u16])
-    requires { (length lines.now ≤ 16384) × (length lines.now / 2 ≤ length ranks.now) × (2 * kept_of lines.now ranks.now ≤ length room.old) }
-    ensures copied { room.new ≡ kept_lines lines.now ranks.now ++ drop (length (kept_lines lines.now ranks.now)) room.old }
-{
-    let count = lines.len() / 2;
     let mut at = 0;
-    for p in 0..count {
-        at = copy_line(lines, ranks, Place(p as u16), room, at);
+    for place in line_places(lines) {
+        if chosen(place) {
+            let line = line_at(lines, place);
+            room[at] = line.one.0;
+            room[at + 1] = line.two.0;
+            at += 2;
+        }
     }
 }
 
 // How many of a list's lines are kept; 0 where a rank is missing.
+#[tactic(auto, using(crate::proofs::Copying::kept_of_lem))]
 fn count_of(lines: &[u16], ranks: &[u8]) -> usize
     ensures count { length lines.now / 2 ≤ length ranks.now → result ≡ kept_of lines.now ranks.now }
 {
@@ -70,20 +56,18 @@ fn count_of(lines: &[u16], ranks: &[u8]) -> usize
 }
 
 // Copies the kept lines of a list out, in list order. Any nonzero rank is kept.
-pub fn copy_kept(lines: &[u16], ranks: &[u8], room: &mut [u16]) -> Copied
+#[tactic(auto, unfolding(crate::specs::Kept::copy_answer, crate::specs::Kept::after, limits::specs::Limits::room_judged))]
+pub fn copy_kept(lines: &[u16], ranks: &[u8], room: &mut [u16]) -> Result<usize, Refusal>
     ensures allowed { CopyAllows lines.now ranks.now room.old result room.new }
 {
-    let length = judge_length(LineList::Only, lines);
-    if let Judged::Refused(refusal) = length {
-        return Copied::Refused(refusal);
-    }
+    judge_length(LineList::Only, lines)?;
     if ranks.len() < lines.len() / 2 {
-        return Copied::Refused(Refusal::Room);
+        return Err(Refusal::Room);
     }
     let kept = count_of(lines, ranks);
     if room.len() / 2 < kept {
-        return Copied::Refused(Refusal::Room);
+        return Err(Refusal::Room);
     }
-    copy_lines(lines, ranks, room);
-    Copied::Lines(kept)
+    put_lines(lines, |place| ranks[place.0 as usize] != 0, room);
+    Ok(kept)
 }

@@ -4,7 +4,9 @@ use Prim.Native.Nat.{ℕ}
 use mathlib.Core.Path.{◌≡◌, refl, sym, ap}
 use mathlib.Core.Bool.{Bool, true, false, true≢false}
 use mathlib.Core.Logic.{◌⊎◌, ◌⊎◌.inl, ◌⊎◌.inr}
-use Rattle.kinds.specs.Answers.{Answer, Answer.given, Answer.refused, taken, refuse_if, ◌and_then◌, is_refused}
+use Rattle.std.specs.Prelude.{Result, Ok, Err, IsErrAnd}
+use Rattle.kinds.specs.declared.Refusal.{Refusal}
+use Rattle.kinds.specs.Answers.{Answer, Answer.given, Answer.refused, taken, refuse_if, ◌and_then◌, is_refused, refusal_answer, answer_of}
 
 -- A try that does not refuse is passed over.
 pub then_next : {A : Type 0} (a : Answer (Unit {0})) (b : Answer A) → is_refused a ≡ false → a and_then b ≡ b
@@ -54,10 +56,6 @@ then_cases (refused number' place' list') b {number} {place} {list} e =
     let z : list' ≡ list = cc in
     inl (rw (x, y, z))
 
--- Two tries in order, by what each says.
-pub then_said : {A : Type 0} {x : Answer A} {a a' : Answer (Unit {0})} {b b' : Answer A} → x ≡ a and_then b → a ≡ a' → b ≡ b' → x ≡ a' and_then b'
-then_said e f g = rw (← f, ← g) e
-
 -- Two tries that are made again after a third change nothing.
 pub then_again : {A : Type 0} (a b c : Answer (Unit {0})) (d : Answer A) → (a and_then (b and_then c)) and_then (a and_then (b and_then d)) ≡ a and_then (b and_then (c and_then d))
 then_again (given x) (given y) c d = refl
@@ -68,3 +66,8 @@ then_again (refused number place list) b c d = refl
 pub then_given : {A : Type 0} {value : A} (a : Answer (Unit {0})) (b : Answer A) → a and_then b ≡ given value → (a ≡ taken) × (b ≡ given value)
 then_given (given x) b e = (refl, e)
 then_given (refused number place list) b e = absurd (true≢false (ap is_refused e))
+
+-- What `?` passes on is the refusal that came to it.
+pub passed_on : {A : Type 0} (r : Result A Refusal) (e : Refusal) → IsErrAnd r (λ s. s ≡ e) → answer_of r ≡ refusal_answer e
+passed_on (Ok x) e h = absurd h
+passed_on (Err s) e h = rw h

@@ -1,16 +1,15 @@
--- The document's number, place and list determine a refusal, and so what a judge says.
+-- The document's number, place and list determine a refusal, and so what a routine says.
 -- The idea: a refusal can be made again from its three numbers. Assumes nothing.
 use Prim.Native.Nat.{ℕ}
 use mathlib.Core.Path.{◌≡◌, refl, sym, ap, ◌∙◌}
 use lib.Dec.{eqb}
+use Rattle.std.specs.Prelude.{Result, Ok, Err}
 use Rattle.laws.specs.Fold.{pick}
 use Rattle.kinds.specs.Refusals.{number_of, place_of, list_of}
-use Rattle.kinds.specs.Answers.{judged_answer}
+use Rattle.kinds.specs.Answers.{answer_of}
 use Rattle.kinds.specs.declared.LineList.{LineList}
 use Rattle.kinds.specs.declared.LineList.TheVariants.{Only, First as FirstList, Second as SecondList}
 use Rattle.kinds.specs.declared.Asked.TheVariants.{First, Second}
-use Rattle.kinds.specs.declared.Judged.{Judged}
-use Rattle.kinds.specs.declared.Judged.TheVariants.{Taken, Refused}
 use Rattle.kinds.specs.declared.Refusal.{Refusal}
 use Rattle.kinds.specs.declared.Refusal.TheVariants.{StationCount, LineCount, LevelRange, StartCount, Room, EndOutside, EndsEqual, StoodEarlier, StartOutside, TakenAway, AskedStation, WeakLevel, UnionCount, Mark, FileEnds, EndCount, BytesFollow, FileLineCount, FileStartCount}
 
@@ -80,9 +79,9 @@ again (FileStartCount offset) = refl
 pub refusal_determined : (a b : Refusal) → number_of a ≡ number_of b → place_of a ≡ place_of b → list_of a ≡ list_of b → a ≡ b
 refusal_determined a b n p l = sym (again a) ∙ (rw (n, p, l) (again b))
 
--- THEOREM. Two judges' words that are the same in the document's numbers are the same.
-pub judged_determined : (a b : Judged) → judged_answer a ≡ judged_answer b → a ≡ b
-judged_determined Taken Taken e = refl
-judged_determined Taken (Refused b) e = cc
-judged_determined (Refused a) Taken e = cc
-judged_determined (Refused a) (Refused b) e = ap Refused (refusal_determined a b (cc) (cc) (cc))
+-- THEOREM. Two results that are the same in the document's numbers are the same.
+pub answer_determined : {A : Type 0} (a b : Result A Refusal) → answer_of a ≡ answer_of b → a ≡ b
+answer_determined (Ok x) (Ok y) e = ap Ok (cc)
+answer_determined (Ok x) (Err s) e = cc
+answer_determined (Err r) (Ok y) e = cc
+answer_determined (Err r) (Err s) e = ap Err (refusal_determined r s (cc) (cc) (cc))

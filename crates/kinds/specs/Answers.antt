@@ -1,10 +1,8 @@
 -- Answers in the document's words: a value, or a refusal's number, place and list; and tries made in order.
 -- Assumes nothing.
-use Rattle.std.specs.Prelude.{ℕ, Bool, true, false}
+use Rattle.std.specs.Prelude.{ℕ, Bool, true, false, Result, Ok, Err}
 use Rattle.kinds.specs.Refusals.{number_of, place_of, list_of}
 use Rattle.kinds.specs.declared.Refusal.{Refusal}
-use Rattle.kinds.specs.declared.Judged.{Judged}
-use Rattle.kinds.specs.declared.Judged.TheVariants.{Taken, Refused}
 
 infixr 30 ◌and_then◌
 -- A value, or the number, the place and the list of a refusal.
@@ -34,7 +32,7 @@ is_refused (refused number place list) = true
 abbrev pub refusal_answer : {A : Type 0} → Refusal → Answer A
 refusal_answer r = refused (number_of r) (place_of r) (list_of r)
 
--- What a judge says, in the document's numbers.
-abbrev pub judged_answer : Judged → Answer (Unit {0})
-judged_answer Taken = taken
-judged_answer (Refused r) = refusal_answer r
+-- What a routine says, in the document's numbers: its value, or its refusal.
+abbrev pub answer_of : {A : Type 0} → Result A Refusal → Answer A
+answer_of (Ok value) = given value
+answer_of (Err r) = refusal_answer r

@@ -2,31 +2,30 @@
 #![tactic(auto)]
 
 ghost use Rattle.std.specs.Prelude.{◌≡◌};
-ghost use Rattle.kinds.specs.Answers.{is_refused, judged_answer, ◌and_then◌};
 ghost use Rattle.kinds.specs.Refusals.{list_number, asked_number, number_of, place_of, list_of};
 
 // The number of a station: 0 to n - 1.
-#[derive(Clone, Copy)]
+#[derive(Clone, Copy, PartialEq, Eq, PartialOrd, Ord)]
 pub struct Station(pub u16);
 
 // The place of a line in its list, counted from 0.
-#[derive(Clone, Copy)]
+#[derive(Clone, Copy, PartialEq, Eq, PartialOrd, Ord)]
 pub struct Place(pub u16);
 
 // The number of a round: 1 to k.
-#[derive(Clone, Copy)]
+#[derive(Clone, Copy, PartialEq, Eq, PartialOrd, Ord)]
 pub struct Round(pub u8);
 
 // A position in a list of stations, as an order or the stations taken away, counted from 0.
-#[derive(Clone, Copy)]
+#[derive(Clone, Copy, PartialEq, Eq, PartialOrd, Ord)]
 pub struct Position(pub u16);
 
 // The level k that an owner asks for. It is wide, so that no caller cuts it down before it is refused.
-#[derive(Clone, Copy)]
+#[derive(Clone, Copy, PartialEq, Eq, PartialOrd, Ord)]
 pub struct Level(pub usize);
 
 // The offset of a byte in a file.
-#[derive(Clone, Copy)]
+#[derive(Clone, Copy, PartialEq, Eq, PartialOrd, Ord)]
 pub struct Offset(pub usize);
 
 // Where a refusal says the fault is: a line's place, a round, an index or an offset, by the refusal's row.
@@ -91,51 +90,28 @@ pub enum Refusal {
     FileStartCount(Offset),
 }
 
-// What a judge says of an input: taken, or the first refusal that holds.
-#[derive(Clone, Copy)]
-pub enum Judged {
-    Taken,
-    Refused(Refusal),
-}
-
-// Whether a judge refused.
-pub fn is_refused(judged: Judged) -> bool
-    ensures answer { result ≡ is_refused (judged_answer judged) }
-{
-    match judged {
-        Judged::Taken => false,
-        Judged::Refused(_) => true,
-    }
-}
-
-// The first judge's refusal, or what the second says.
-pub fn first_refusal(first: Judged, second: Judged) -> Judged
-    ensures answer { judged_answer result ≡ judged_answer first and_then judged_answer second }
-{
-    match first {
-        Judged::Taken => second,
-        Judged::Refused(refusal) => Judged::Refused(refusal),
-    }
-}
-
 // The number of a line list: 0 the only one, 1 the first, 2 the second.
-fn list_number(list: LineList) -> u8
-    ensures number { result ≡ list_number list }
-{
-    match list {
-        LineList::Only => 0,
-        LineList::First => 1,
-        LineList::Second => 2,
+impl From<LineList> for u8 {
+    ghost from_gives = { λ list number. number ≡ list_number list };
+
+    fn from(list: LineList) -> u8 {
+        match list {
+            LineList::Only => 0,
+            LineList::First => 1,
+            LineList::Second => 2,
+        }
     }
 }
 
 // The number of an asked station: 0 the first, 1 the second.
-fn asked_number(asked: Asked) -> usize
-    ensures number { result ≡ asked_number asked }
-{
-    match asked {
-        Asked::First => 0,
-        Asked::Second => 1,
+impl From<Asked> for usize {
+    ghost from_gives = { λ asked number. number ≡ asked_number asked };
+
+    fn from(asked: Asked) -> usize {
+        match asked {
+            Asked::First => 0,
+            Asked::Second => 1,
+        }
     }
 }
 
@@ -181,7 +157,7 @@ pub fn place_of(refusal: Refusal) -> RefusalPlace
         Refusal::StoodEarlier(_, place) => RefusalPlace(place.0 as usize),
         Refusal::StartOutside(round) => RefusalPlace(round.0 as usize),
         Refusal::TakenAway(position) => RefusalPlace(position.0 as usize),
-        Refusal::AskedStation(asked) => RefusalPlace(asked_number(asked)),
+        Refusal::AskedStation(asked) => RefusalPlace(usize::from(asked)),
         Refusal::WeakLevel => RefusalPlace(0),
         Refusal::UnionCount => RefusalPlace(0),
         Refusal::Mark(offset) => RefusalPlace(offset.0),
@@ -199,13 +175,13 @@ pub fn list_of(refusal: Refusal) -> u8
 {
     match refusal {
         Refusal::StationCount => 0,
-        Refusal::LineCount(list) => list_number(list),
+        Refusal::LineCount(list) => u8::from(list),
         Refusal::LevelRange => 0,
         Refusal::StartCount => 0,
         Refusal::Room => 0,
-        Refusal::EndOutside(list, _) => list_number(list),
-        Refusal::EndsEqual(list, _) => list_number(list),
-        Refusal::StoodEarlier(list, _) => list_number(list),
+        Refusal::EndOutside(list, _) => u8::from(list),
+        Refusal::EndsEqual(list, _) => u8::from(list),
+        Refusal::StoodEarlier(list, _) => u8::from(list),
         Refusal::StartOutside(_) => 0,
         Refusal::TakenAway(_) => 0,
         Refusal::AskedStation(_) => 0,

@@ -1,14 +1,14 @@
 -- Lists filled from the front, one store a turn or one lent part a turn.
 -- Assumes nothing.
 use Prim.Native.Nat.{ℕ, zero, suc, ◌+◌, ◌*◌, ◌-◌, ◌<◌, ◌≤◌}
-use mathlib.Core.Path.{◌≡◌, refl, sym, ap, ◌∙◌}
-use mathlib.Core.List.{List, [], ◌∷◌, ◌++◌, map, append_assoc, append-nil}
+use mathlib.Core.Path.{◌≡◌, refl, sym, ◌∙◌}
+use mathlib.Core.List.{List, [], ◌∷◌, ◌++◌, map, append_assoc}
 use native.Mathlib.Nat.{suc-mul, mul-le-mul_right, add-sub_cancel_left}
 use native.Mathlib.Decide.{ℕ_discrete, dec_lt}
 use native.Mathlib.Omega.{arith}
 use native.Mathlib.Numerals.{add-one}
 use lib.ListN.{length, get_or, set, take, drop, replicate, length-replicate, get_or-replicate, get_or-eq_default}
-use lib.Seq.{get_or-set_same, get_or-set_other, drop-cons, set_at, take_at, drop_at, drop-drop, drop-length}
+use lib.Seq.{get_or-set_same, get_or-set_other, drop-cons, set_at, take_at, drop_at, drop-drop}
 
 -- A list of one value, read with that value past its end.
 pub replicate_at : {A : Type 0} (n i : ℕ) (v : A) → get_or (replicate n v) i v ≡ v
@@ -23,20 +23,6 @@ pub store_next : {A : Type 0} (front d : List A) (j : ℕ) (v : A) → length fr
     → set (front ++ drop j d) j v ≡ (front ++ (v ∷ [])) ++ drop (j + 1) d
 store_next front d j v e h =
     rw (add-one j, drop-cons d j v h, set_at front (get_or d j v) (drop (suc j) d) v j e) (sym (append_assoc front (v ∷ []) (drop (suc j) d)))
-
-replicate_more : {A : Type 0} (n : ℕ) (v : A) → replicate n v ++ (v ∷ []) ≡ replicate (n + 1) v
-replicate_more {A} n v = rw (add-one n) (go n)
-  where
-    go : (n : ℕ) → replicate n v ++ (v ∷ []) ≡ replicate (suc n) v
-    go zero = refl
-    go (suc n) = ap (λ (l : List A). v ∷ l) (go n)
-
--- The first j places of d hold v: a store of v at j makes that one more, and after the last place all do.
-pub fill_next : {A : Type 0} (d : List A) (j : ℕ) (v : A) → j < length d → set (replicate j v ++ drop j d) j v ≡ replicate (j + 1) v ++ drop (j + 1) d
-fill_next d j v h = store_next (replicate j v) d j v (length-replicate j v) h ∙ rw (replicate_more j v)
-
-pub fill_done : {A : Type 0} (d : List A) (v : A) → replicate (length d) v ++ drop (length d) d ≡ replicate (length d) v
-fill_done d v = simp (drop-length, append-nil)
 
 -- `front` fills the first `at` places of d, and the part from `at` to at + n was lent and holds `part`.
 pub part_back : {A : Type 0} (front d part : List A) (at n : ℕ) → length front ≡ at

@@ -4,3 +4,5 @@ pub mod Judging
 pub mod Orders
 pub mod Faults
 pub mod Rows
+pub mod Stations
+pub mod Walks

@@ -6,8 +6,8 @@ use Rattle.kinds.specs.declared.Station.{Station}
 use Rattle.parting.specs.Answers.{spot_stations, found_standing}
 use Rattle.parting.specs.declared.Spot.{Spot}
 use Rattle.parting.specs.declared.Spot.TheVariants.{Empty, One, Two}
-use Rattle.parting.specs.declared.Found.{Found}
-use Rattle.parting.specs.declared.Found.TheVariants.{Stands, Weak}
+use Rattle.parting.specs.declared.WeakSpot.{WeakSpot}
+use Rattle.std.specs.Prelude.{Option, Some, None}
 
 abbrev station : ℕ → Station
 station v = record { 0 = v }
@@ -26,12 +26,12 @@ spot_determined (Two v w) (Two x y) e =
     let g : w.0 ≡ y.0 = cc in
     ap₂ (λ i j. Two (station i) (station j)) f g
 
-pub found_determined : (x y : Found) → found_standing x ≡ found_standing y → x ≡ y
-found_determined Stands Stands e = refl
-found_determined Stands (Weak w) e = cc
-found_determined (Weak w) Stands e = cc
-found_determined (Weak v) (Weak w) e =
+pub found_determined : (x y : Option WeakSpot) → found_standing x ≡ found_standing y → x ≡ y
+found_determined None None e = refl
+found_determined None (Some w) e = cc
+found_determined (Some w) None e = cc
+found_determined (Some v) (Some w) e =
     let s : v.spot ≡ w.spot = spot_determined v.spot w.spot (cc) in
     let a : v.one.0 ≡ w.one.0 = cc in
     let b : v.two.0 ≡ w.two.0 = cc in
-    ap Weak (rw (s, a, b) refl)
+    ap Some (rw (s, a, b) refl)

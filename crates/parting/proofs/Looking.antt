@@ -17,7 +17,10 @@ use Rattle.pieces.specs.Away.{is_gone, Unmarked, Gone, is_away}
 use Rattle.pieces.specs.Pieces.{pieces_of, one_piece}
 use Rattle.pieces.proofs.Pieces.{pieces_alike}
 use Rattle.parting.specs.Standing.{Standing.stands, Standing.weak, lowest_remaining, lowest_apart, without}
-use Rattle.parting.specs.Looking.{is_apart}
+use Rattle.parting.specs.Looking.{is_apart, marked, Below}
+use Rattle.parting.specs.Answers.{spot_stations}
+use Rattle.parting.specs.declared.Spot.{Spot}
+use Rattle.parting.specs.declared.Spot.TheVariants.{Empty, One, Two}
 
 -- ── the stations of a list, as marks ──
 
@@ -117,34 +120,10 @@ mark_two gone x y u h k =
     go false true = refl
     go false false = refl
 
--- Marks that are taken out again leave none.
-pub clear_one : (gone : List Bool) (x : ℕ) → Unmarked gone → x < length gone → Unmarked (set (set gone x true) x false)
-clear_one gone x u h =
-    record {
-      none = λ v l.
-          let m : v < length gone = simp length-set at l in
-          let h' : x < length (set gone x true) = simp length-set h in
-          rw (mark_at (set gone x true) x false h' v, mark_at gone x true h v, u.none v m) (go (eqb x v));
-    }
-  where
-    go : (b : Bool) → pick b false (pick b true false) ≡ false
-    go true = refl
-    go false = refl
+-- ── the stations of a spot, as marks ──
 
-pub clear_two : (gone : List Bool) (x y : ℕ) → Unmarked gone → x < length gone → y < length gone
-    → Unmarked (set (set (set (set gone x true) y true) x false) y false)
-clear_two gone x y u h k =
-    record {
-      none = λ v l.
-          let m : v < length gone = simp length-set at l in
-          let k₁ : y < length (set gone x true) = simp length-set k in
-          let h₂ : x < length (set (set gone x true) y true) = simp length-set h in
-          let k₃ : y < length (set (set (set gone x true) y true) x false) = simp length-set k in
-          rw (mark_at (set (set (set gone x true) y true) x false) y false k₃ v, mark_at (set (set gone x true) y true) x false h₂ v, mark_at (set gone x true) y true k₁ v, mark_at gone x true h v, u.none v m) (go (eqb x v) (eqb y v));
-    }
-  where
-    go : (b c : Bool) → pick c false (pick b false (pick c true (pick b true false))) ≡ false
-    go true true = refl
-    go true false = refl
-    go false true = refl
-    go false false = refl
+pub marked_gone : (spot : Spot) (gone : List Bool) → Unmarked gone → Below (length gone) (spot_stations spot)
+    → Gone (spot_stations spot) (marked (spot_stations spot) true gone)
+marked_gone Empty gone u h = unmarked_gone gone u
+marked_gone (One v) gone u h = mark_one gone v.0 u h.0
+marked_gone (Two v w) gone u h = mark_two gone v.0 w.0 u h.0 h.1.0

@@ -1,15 +1,17 @@
 -- How a look speaks of its answer: what is parted where some stations are taken away.
 -- Only the helpers speak of it. Assumes nothing.
-use Rattle.std.specs.Prelude.{ℕ, Bool, not, ◌&&◌, List, get_or, eqb}
+use Rattle.std.specs.Prelude.{ℕ, ◌<◌, Bool, not, ◌&&◌, List, [], ◌∷◌, get_or, set, eqb}
 use Rattle.pieces.specs.Away.{is_gone}
-use Rattle.parting.specs.Standing.{Standing, Standing.stands, Standing.weak}
-use Rattle.parting.specs.declared.Parted.{Parted}
-use Rattle.parting.specs.declared.Parted.TheVariants.{Whole, Between}
 
--- What is found where the stations of a list are taken away.
-abbrev pub parted_standing : List ℕ → Parted → Standing
-parted_standing spot Whole = stands
-parted_standing spot (Between a b) = weak spot a.0 b.0
+-- Every station of a list is below n.
+abbrev pub Below : ℕ → List ℕ → Type 0
+Below n [] = Unit {0}
+Below n (v ∷ vs) = (v < n) × Below n vs
+
+-- The marks, with those of a list's stations written.
+abbrev pub marked : List ℕ → Bool → List Bool → List Bool
+marked [] away gone = gone
+marked (v ∷ vs) away gone = marked vs away (set gone v away)
 
 -- By the marks and the table of pieces: station v remains, and is of another piece than a.
 abbrev pub is_apart : List Bool → List ℕ → ℕ → ℕ → Bool

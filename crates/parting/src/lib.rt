@@ -1,19 +1,20 @@
 // What is parted where the stations of a small set are taken away: the lowest remaining station from the lowest not joined to it.
 #![tactic(auto)]
 
-ghost use Rattle.std.specs.Prelude.{◌≡◌, List, [], ◌∷◌, ℕ, ◌≤◌, ◌<◌, length};
+ghost use Rattle.std.specs.Prelude.{◌≡◌, ◌≤◌, ◌<◌, length, IfSome};
 ghost use Rattle.laws.specs.Fold.{lowest};
-ghost use Rattle.network.specs.Faults.{Sound};
+ghost use Rattle.network.specs.Stations.{number_or};
 ghost use Rattle.pieces.specs.Away.{is_gone, Unmarked, Gone};
-ghost use Rattle.parting.specs.Standing.{is_weak, lowest_remaining, without};
-ghost use Rattle.parting.specs.Looking.{parted_standing, is_apart};
+ghost use Rattle.parting.specs.Standing.{lowest_remaining, without};
+ghost use Rattle.parting.specs.Looking.{is_apart, marked, Below};
 ghost use Rattle.parting.specs.Answers.{spot_stations, found_standing};
 
 use kinds::Station;
+use network::{SoundNetwork, lowest_station};
 use pieces::find_pieces;
 
 // The stations of a weak spot, at most two, the lower first.
-#[derive(Clone, Copy)]
+#[derive(Clone, Copy, PartialEq, Eq)]
 pub enum Spot {
     Empty,
     One(Station),
@@ -21,58 +22,21 @@ pub enum Spot {
 }
 
 // A weak spot: without its stations, station one is not joined to station two.
-#[derive(Clone, Copy)]
+#[derive(Clone, Copy, PartialEq, Eq)]
 pub struct WeakSpot {
     pub spot: Spot,
     pub one: Station,
     pub two: Station,
 }
 
-// What is found of a network at a level.
-#[derive(Clone, Copy)]
-pub enum Found {
-    Stands,
-    Weak(WeakSpot),
-}
-
-// What is parted where some stations are taken away: nothing, or one station from another.
-#[derive(Clone, Copy)]
-enum Parted {
-    Whole,
-    Between(Station, Station),
-}
-
-// Whether a weak spot is found.
-pub fn is_weak(found: Found) -> bool
-    ensures weak { result ≡ is_weak (found_standing found) }
-{
-    match found {
-        Found::Stands => false,
-        Found::Weak(_) => true,
-    }
-}
-
-// What is found where the stations of a spot are taken away.
-fn found_at(spot: Spot, parted: Parted) -> Found
-    ensures found { found_standing result ≡ parted_standing (spot_stations spot) parted }
-{
-    match parted {
-        Parted::Whole => Found::Stands,
-        Parted::Between(one, two) => Found::Weak(WeakSpot { spot, one, two }),
-    }
-}
-
-// The lowest station that is not marked; n where each is.
-fn lowest_remaining(n: usize, gone: &[bool]) -> Station
+// The lowest station that is not marked, if there is one.
+#[tactic(auto, unfolding(crate::specs::Standing::lowest_remaining))]
+fn lowest_remaining(n: usize, gone: &[bool]) -> Option<Station>
     requires { (n ≤ 1024) × (length gone.now ≡ n) }
-    ensures lowest { result.0 ≡ lowest_remaining n (is_gone gone.now) }
+    ensures lowest { number_or n result ≡ lowest_remaining n (is_gone gone.now) }
+    ensures station { IfSome result (λ v. v.0 < n) }
 {
-    for a in 0..n {
-        if !gone[a] {
-            return Station(a as u16);
-        }
-    }
-    Station(n as u16)
+    lowest_station(Station(0), n, |v| !gone[v.0 as usize])
 }
 
 // Whether a station remains and is of another piece than the first.
@@ -80,91 +44,63 @@ fn is_apart(one: Station, two: Station, gone: &[bool], pieces: &[u16]) -> bool
     requires { (one.0 < length pieces.now) × (two.0 < length pieces.now) × (length gone.now ≡ length pieces.now) }
     ensures apart { result ≡ is_apart gone.now pieces.now one.0 two.0 }
 {
-    let a = one.0 as usize;
-    let b = two.0 as usize;
-    if gone[b] {
-        return false;
-    }
-    pieces[a] != pieces[b]
+    !gone[two.0 as usize] && pieces[one.0 as usize] != pieces[two.0 as usize]
 }
 
-// The lowest station that remains and is of another piece than the first; n where there is none.
-fn lowest_apart(n: usize, one: Station, gone: &[bool], pieces: &[u16]) -> Station
+// The lowest station that remains and is of another piece than the first, if there is one.
+fn lowest_apart(n: usize, one: Station, gone: &[bool], pieces: &[u16]) -> Option<Station>
     requires { (n ≤ 1024) × (one.0 < n) × (length gone.now ≡ n) × (length pieces.now ≡ n) }
-    ensures lowest { result.0 ≡ lowest (is_apart gone.now pieces.now one.0) n n }
+    ensures lowest { number_or n result ≡ lowest (is_apart gone.now pieces.now one.0) n n }
+    ensures station { IfSome result (λ v. v.0 < n) }
 {
-    for b in 0..n {
-        let two = Station(b as u16);
-        if is_apart(one, two, gone, pieces) {
-            return two;
+    lowest_station(Station(0), n, |v| is_apart(one, v, gone, pieces))
+}
+
+// Looks whether what remains without the stations of a spot is parted: the lowest remaining station from the lowest that is not joined to it.
+pub fn look(
+    network: &SoundNetwork,
+    spot: Spot,
+    gone: &[bool],
+    pieces: &mut [u16],
+) -> Option<WeakSpot>
+    requires { (length gone.now ≡ network.now.n) × (length pieces.old ≡ network.now.n) × Gone (spot_stations spot) gone.now }
+    ensures found { found_standing result ≡ without network.now.n network.now.lines.now (spot_stations spot) }
+{
+    let one = lowest_remaining(network.n, gone)?;
+    find_pieces(network, gone, pieces);
+    let two = lowest_apart(network.n, one, gone, pieces)?;
+    Some(WeakSpot { spot, one, two })
+}
+
+// Marks each station of a spot as taken away, or as one that remains.
+fn mark(spot: Spot, away: bool, gone: &mut [bool])
+    requires { Below (length gone.old) (spot_stations spot) }
+    ensures marked { gone.new ≡ marked (spot_stations spot) away gone.old }
+{
+    match spot {
+        Spot::Empty => {}
+        Spot::One(one) => gone[one.0 as usize] = away,
+        Spot::Two(one, two) => {
+            gone[one.0 as usize] = away;
+            gone[two.0 as usize] = away;
         }
     }
-    Station(n as u16)
 }
 
-// Looks whether what remains is parted: the lowest remaining station from the lowest that is not joined to it.
-fn look(n: usize, lines: &[u16], gone: &[bool], pieces: &mut [u16]) -> Parted
-    requires { Sound n lines.now × (length gone.now ≡ n) × (length pieces.old ≡ n) }
-    ensures parted { (spot : List ℕ) → Gone spot gone.now → parted_standing spot result ≡ without n lines.now spot }
-{
-    let one = lowest_remaining(n, gone);
-    if n <= one.0 as usize {
-        return Parted::Whole;
-    }
-    find_pieces(n, lines, gone, pieces);
-    let two = lowest_apart(n, one, gone, pieces);
-    if n <= two.0 as usize {
-        return Parted::Whole;
-    }
-    Parted::Between(one, two)
-}
-
-// No station is taken away.
-pub fn try_none(n: usize, lines: &[u16], gone: &[bool], pieces: &mut [u16]) -> Found
-    requires { Sound n lines.now × (length gone.now ≡ n) × Unmarked gone.now × (length pieces.old ≡ n) }
-    ensures found { found_standing result ≡ without n lines.now [] }
-{
-    found_at(Spot::Empty, look(n, lines, gone, pieces))
-}
-
-// One station is taken away, and put back.
-pub fn try_one(
-    n: usize,
-    lines: &[u16],
-    one: Station,
+// The stations of a spot are taken away, and put back: what that parts, if anything.
+#[tactic(auto, using(crate::proofs::Looking::marked_gone))]
+pub fn try_spot(
+    network: &SoundNetwork,
+    spot: Spot,
     gone: &mut [bool],
     pieces: &mut [u16],
-) -> Found
-    requires { Sound n lines.now × (length gone.old ≡ n) × Unmarked gone.old × (length pieces.old ≡ n) × (one.0 < n) }
-    ensures found { found_standing result ≡ without n lines.now (one.0 ∷ []) }
+) -> Option<WeakSpot>
+    requires { (length gone.old ≡ network.now.n) × Unmarked gone.old × (length pieces.old ≡ network.now.n) × Below network.now.n (spot_stations spot) }
+    ensures found { found_standing result ≡ without network.now.n network.now.lines.now (spot_stations spot) }
     ensures gone { Unmarked gone.new }
 {
-    let a = one.0 as usize;
-    gone[a] = true;
-    let parted = look(n, lines, gone, pieces);
-    gone[a] = false;
-    found_at(Spot::One(one), parted)
-}
-
-// Two stations are taken away, and put back.
-pub fn try_two(
-    n: usize,
-    lines: &[u16],
-    one: Station,
-    two: Station,
-    gone: &mut [bool],
-    pieces: &mut [u16],
-) -> Found
-    requires { Sound n lines.now × (length gone.old ≡ n) × Unmarked gone.old × (length pieces.old ≡ n) × (one.0 < n) × (two.0 < n) }
-    ensures found { found_standing result ≡ without n lines.now (one.0 ∷ (two.0 ∷ [])) }
-    ensures gone { Unmarked gone.new }
-{
-    let a = one.0 as usize;
-    let b = two.0 as usize;
-    gone[a] = true;
-    gone[b] = true;
-    let parted = look(n, lines, gone, pieces);
-    gone[a] = false;
-    gone[b] = false;
-    found_at(Spot::Two(one, two), parted)
+    mark(spot, true, gone);
+    let found = look(network, spot, gone, pieces);
+    mark(spot, false, gone);
+    found
 }

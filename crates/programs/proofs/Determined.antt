@@ -3,9 +3,10 @@
 use Prim.Native.Nat.{ℕ}
 use mathlib.Core.Path.{◌≡◌, sym, ◌∙◌}
 use mathlib.Core.List.{List}
-use Rattle.report.specs.declared.Written.{Written}
+use Rattle.std.specs.Prelude.{Result}
+use Rattle.report.specs.declared.TooShort.{TooShort}
 use Rattle.programs.specs.Texts.{TextAllows}
 
-pub text_once : {room : ℕ} {output text text₁ text₂ : List ℕ} {r s : Written} → TextAllows room output text r text₁ → TextAllows room output text s text₂
+pub text_once : {room : ℕ} {output text text₁ text₂ : List ℕ} {r s : Result ℕ TooShort} → TextAllows room output text r text₁ → TextAllows room output text s text₂
     → (r ≡ s) × (text₁ ≡ text₂)
 text_once a b = (a.answer ∙ sym b.answer, a.new_text ∙ sym b.new_text)

@@ -20,7 +20,6 @@ use Rattle.request.specs.Rows.{request_rows}
 use Rattle.prune.specs.Pruning.{prune_answer}
 use Rattle.rule.specs.Rounds.{pruned}
 use Rattle.prune.specs.Answers.{PruneAllows}
-use Rattle.prune.specs.declared.Pruned.TheVariants.{Kept}
 use Rattle.prune.proofs.Rows.{prune_follows}
 use Rattle.unite.specs.Rows.{union_rows}
 use Rattle.unite.proofs.Rows.{union_follows}
@@ -45,6 +44,7 @@ use Rattle.certificate.proofs.Calls.{pruned_checked}
 use Rattle.tapuhzel.specs.Calls.{said, prune_call, check_call, text_call}
 use Rattle.promises.specs.Allowed.{Tells}
 use Rattle.promises.specs.Promises.{CSame, CFace}
+use Rattle.std.specs.Prelude.{Ok}
 
 -- ── no row's number is 0 ──
 
@@ -175,7 +175,7 @@ c_ours n k lines starts ranks orders {place} {list} {kept} {ranks'} {orders'} e 
         → after answer (pruned n k lines starts).ranks ranks ≡ ranks' → after answer (pruned n k lines starts).orders orders ≡ orders'
         → check_call n k lines ranks' orders' ≡ ((0, 0, 0), 0, 0, 0)
     go (given count) is zero r o =
-        let call : PruneAllows n k lines starts ranks orders (Kept count) ranks' orders' = record { answer = sym is; new_ranks = sym r; new_orders = sym o } in
+        let call : PruneAllows n k lines starts ranks orders (Ok count) ranks' orders' = record { answer = sym is; new_ranks = sym r; new_orders = sym o } in
         rw (pruned_checked call)
     go (refused number place' list') is zero r o =
         absurd (omega (arith, (request_positive n k lines starts _).some ((prune_follows n k lines starts (length ranks) (length orders)).exactly.0 is)))

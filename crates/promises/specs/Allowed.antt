@@ -1,10 +1,9 @@
 -- The contracts of one equation, as the routines have them, each as a record of what a call may answer; the others are records already, cited by the
 -- routines themselves. What a call of pruning that is not refused leaves behind; and how a call from C tells a refusal.
 -- Assumes nothing.
-use Rattle.std.specs.Prelude.{ℕ, ◌+◌, ◌*◌, ◌/◌, ◌<◌, ◌≤◌, ◌≡◌, List, length, get_or, take, drop, replicate}
-use Rattle.kinds.specs.Answers.{judged_answer}
+use Rattle.std.specs.Prelude.{ℕ, ◌+◌, ◌*◌, ◌/◌, ◌<◌, ◌≤◌, ◌≡◌, List, length, get_or, take, drop, replicate, Result, Option, Bool}
+use Rattle.kinds.specs.Answers.{answer_of}
 use Rattle.kinds.specs.Rows.{Rows, NoneOf}
-use Rattle.kinds.specs.declared.Judged.{Judged}
 use Rattle.network.specs.Judging.{list_judged}
 use Rattle.network.specs.Orders.{EachOnce}
 use Rattle.rule.specs.Rule.{one_round}
@@ -13,28 +12,27 @@ use Rattle.rule.specs.Rounds.{pruned}
 use Rattle.plans.specs.Orders.{order_of}
 use Rattle.plans.specs.Checking.{check_answer}
 use Rattle.forests.specs.Answers.{checked_answer}
-use Rattle.forests.specs.declared.Checked.{Checked}
 use Rattle.joined.specs.Asking.{joined_answer}
-use Rattle.joined.specs.Answers.{answered_answer}
-use Rattle.joined.specs.declared.Answered.{Answered}
 use Rattle.weakness.specs.Search.{weak_answer}
 use Rattle.weakness.specs.Answers.{searched_answer}
-use Rattle.weakness.specs.declared.Searched.{Searched}
+use Rattle.kinds.specs.declared.Refusal.{Refusal}
+use Rattle.entries.specs.declared.Verdict.{Verdict}
+use Rattle.parting.specs.declared.WeakSpot.{WeakSpot}
 
 -- `judging::judge`.
-pub record JudgeAllows (n : ℕ) (lines : List ℕ) (said : Judged) : Type 0 where
-  pub answer : judged_answer said ≡ list_judged 0 n lines
+pub record JudgeAllows (n : ℕ) (lines : List ℕ) (said : Result (Unit {0}) Refusal) : Type 0 where
+  pub answer : answer_of said ≡ list_judged 0 n lines
 
 -- `forests::check`.
-pub record CheckAllows (n k : ℕ) (lines ranks orders : List ℕ) (said : Checked) : Type 0 where
+pub record CheckAllows (n k : ℕ) (lines ranks orders : List ℕ) (said : Result Verdict Refusal) : Type 0 where
   pub answer : checked_answer said ≡ check_answer n k lines ranks orders
 
 -- `joined::joined`.
-pub record JoinedAllows (n : ℕ) (lines away : List ℕ) (a b : ℕ) (said : Answered) : Type 0 where
-  pub answer : answered_answer said ≡ joined_answer n lines away a b
+pub record JoinedAllows (n : ℕ) (lines away : List ℕ) (a b : ℕ) (said : Result Bool Refusal) : Type 0 where
+  pub answer : answer_of said ≡ joined_answer n lines away a b
 
 -- `weakness::find_weak_spot`.
-pub record SearchAllows (n k : ℕ) (lines : List ℕ) (said : Searched) : Type 0 where
+pub record SearchAllows (n k : ℕ) (lines : List ℕ) (said : Result (Option WeakSpot) Refusal) : Type 0 where
   pub answer : searched_answer said ≡ weak_answer n k lines
 
 -- What pruning leaves: of m lines, m ranks; k orders of n entries; the count of kept lines; and later places as they were. No line has a rank before

@@ -7,13 +7,15 @@ use mathlib.Core.List.{List}
 use native.Mathlib.Omega.{arith}
 use lib.ListN.{length}
 use Rattle.request.specs.Requests.{Request}
-use Rattle.scan.specs.Asked.{Laid}
+use Rattle.scan.specs.Asked.{Scannable}
 use Rattle.ranks.specs.Sizes.{InOrder}
 
 module _ {n k : ℕ} {lines starts : List ℕ} {short : Bool} (r : Request n k lines starts short) where
-  pub request_laid : {ranks : List ℕ} → length ranks ≡ length lines / 2 → Laid n lines ranks
-  request_laid half =
+  pub request_scannable : {ranks : List ℕ} → length ranks ≡ length lines / 2 → Scannable n lines ranks
+  request_scannable half =
       record {
+        some = r.sized.within.some;
+        most = r.sized.within.most;
         one_in = λ q h. r.sound.simple.proper.one_in q (omega arith);
         two_in = λ q h. r.sound.simple.proper.two_in q (omega arith);
         few = r.sized.within.few;

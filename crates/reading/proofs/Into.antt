@@ -7,6 +7,7 @@ use mathlib.Core.List.{List}
 use lib.Dec.{ltb}
 use lib.ListN.{length}
 use lib.Seq.{take_at}
+use Rattle.std.specs.Prelude.{Ok}
 use Rattle.kinds.specs.Answers.{Answer.given}
 use Rattle.kinds.proofs.Answers.{then_given}
 use Rattle.limits.specs.Limits.{room_judged}
@@ -15,7 +16,6 @@ use Rattle.reading.specs.Reading.{Facts, file_read, read_answer, lines_after, st
 use Rattle.reading.specs.Answers.{facts_of, ReadAllows}
 use Rattle.reading.specs.Files.{ReadInto}
 use Rattle.reading.specs.declared.Found.{Found}
-use Rattle.reading.specs.declared.Reading.TheVariants.{Network}
 use Rattle.reading.proofs.Contents.{length_lines, length_starts}
 use Rattle.reading.proofs.Files.{read_formed}
 
@@ -35,7 +35,7 @@ copied_into {bytes} {lines'} {starts'} {facts} lines starts read new_lines new_s
       starts_part = take_at (start_numbers bytes facts.lines facts.starts) _ facts.starts (length_starts bytes facts.lines facts.starts);
     })
 
-pub read_into : {bytes lines starts lines' starts' : List ℕ} {found : Found} → ReadAllows bytes lines starts (Network found) lines' starts'
+pub read_into : {bytes lines starts lines' starts' : List ℕ} {found : Found} → ReadAllows bytes lines starts (Ok found) lines' starts'
     → ReadInto bytes (facts_of found) lines' starts'
 unfolding read_answer lines_after starts_after
 read_into {bytes} {lines} {starts} {lines'} {starts'} {found} call =

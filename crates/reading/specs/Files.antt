@@ -22,7 +22,7 @@ pub record Formed (bytes : List ℕ) (facts : Facts) : Type 0 where
 
 -- What is found in the file of the network of n stations, level k, a line list and starts; and the same as bare facts.
 abbrev pub network_found : ℕ → ℕ → List ℕ → List ℕ → Found
-network_found n k lines starts = record { stations = n; level = record { 0 = k }; lines = length lines / 2; starts = length starts }
+network_found n k lines starts = record { stations = n; level = record { 0 = k }; counts = record { lines = length lines / 2; starts = length starts } }
 
 abbrev pub network_facts : ℕ → ℕ → List ℕ → List ℕ → Facts
 network_facts n k lines starts = facts_of (network_found n k lines starts)

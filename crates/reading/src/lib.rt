@@ -2,13 +2,31 @@
 #![tactic(auto)]
 
 ghost use Rattle.std.specs.Prelude.{◌≡◌, ◌≢◌, ◌+◌, ◌*◌, ◌<◌, ◌≤◌, [], ◌∷◌, length};
-ghost use Rattle.kinds.specs.Answers.{judged_answer};
-ghost use Rattle.reading.specs.Numbers.{number_at};
+ghost use Rattle.kinds.specs.Answers.{answer_of};
+ghost use Rattle.reading.specs.Numbers.{number_at, mark_ln, mark_rt, mark_en};
 ghost use Rattle.reading.specs.Parts.{placed};
 ghost use Rattle.reading.specs.Reading.{line_ends, line_numbers, start_numbers, offset_after, length_here, record_judged, order_after, record_counted, record_after, end_read, records_read, file_read};
 ghost use Rattle.reading.specs.Answers.{record_answer, reading_answer, ReadAllows};
 
-use kinds::{Judged, Level, Offset, Place, Position, Refusal};
+use kinds::{Level, Offset, Place, Position, Refusal};
+
+// The mark of the network's record. A mark is two letters as a number, low byte first.
+pub const NW: u16 = 22350;
+
+// The mark of a line's record.
+pub const LN: u16 = 20044;
+
+// The mark of a starting station's record.
+pub const RT: u16 = 21586;
+
+// The mark of the record that ends a file.
+pub const EN: u16 = 20037;
+
+// The most lines of a file.
+const MOST_LINES: usize = 8192;
+
+// The most starting stations of a file.
+const MOST_STARTS: usize = 16;
 
 // Where in the file's order a record stands: before all others, before any RT, or after one.
 #[derive(Clone, Copy)]
@@ -25,29 +43,40 @@ pub struct Counts {
     pub starts: usize,
 }
 
-// A record after NW, or why there is none.
+// A record after NW.
 #[derive(Clone, Copy)]
 pub enum Record {
     Line,
     Start,
     End,
-    Refused(Refusal),
 }
 
-// What reading found: the number of stations, the level, and how many lines and starts.
+// What reading found: the number of stations, the level, and how many lines and starts. None of it is judged.
 #[derive(Clone, Copy)]
 pub struct Found {
     pub stations: usize,
     pub level: Level,
-    pub lines: usize,
-    pub starts: usize,
+    pub counts: Counts,
 }
 
-// What reading answers: a network, which it does not judge, or the first refusal that holds.
-#[derive(Clone, Copy)]
-pub enum Reading {
-    Network(Found),
-    Refused(Refusal),
+impl Counts {
+    // The offset after NW and these records.
+    fn offset(self) -> Offset
+        requires { offset_after self.lines self.starts < 18446744073709551616 }
+        ensures offset { result.0 ≡ offset_after self.lines self.starts }
+    {
+        Offset(6 + 6 * self.lines + 4 * self.starts)
+    }
+
+    // What the order allows after these records.
+    fn order(self) -> Order
+        ensures order { result ≡ order_after self.starts }
+    {
+        if self.starts == 0 {
+            return Order::Lines;
+        }
+        Order::Starts
+    }
 }
 
 // The number at an offset: 16 bits, low byte first.
@@ -56,146 +85,105 @@ fn number_at(bytes: &[u8], offset: Offset) -> u16
     ensures number { result ≡ number_at bytes.now offset.0 }
 {
     let at = offset.0;
-    let low = bytes[at] as u16;
-    let high = bytes[at + 1] as u16;
-    low + 256 * high
+    u16::from_le_bytes([bytes[at], bytes[at + 1]])
 }
 
 // The length of the record that a mark begins, by its kind and by what the order allows: 0 where it is not allowed here.
+#[tactic(auto, unfolding(crate::specs::Reading::length_here))]
 fn length_here(mark: u16, order: Order) -> usize
     ensures length { result ≡ length_here order mark }
 {
-    match mark {
-        // NW
-        22350 => match order {
-            Order::First => 6,
-            Order::Lines => 0,
-            Order::Starts => 0,
-        },
-        // LN
-        20044 => match order {
-            Order::First => 0,
-            Order::Lines => 6,
-            Order::Starts => 0,
-        },
-        // RT
-        21586 => match order {
-            Order::First => 0,
-            Order::Lines => 4,
-            Order::Starts => 4,
-        },
-        // EN
-        20037 => match order {
-            Order::First => 0,
-            Order::Lines => 4,
-            Order::Starts => 4,
-        },
+    match (order, mark) {
+        (Order::First, NW) => 6,
+        (Order::Lines, LN) => 6,
+        (Order::Lines, RT) => 4,
+        (Order::Lines, EN) => 4,
+        (Order::Starts, RT) => 4,
+        (Order::Starts, EN) => 4,
         _ => 0,
     }
 }
 
 // Whether an allowed record stands whole at an offset: refusals 21 and 20.
-fn judge_record(bytes: &[u8], offset: Offset, order: Order) -> Judged
+#[tactic(auto, unfolding(crate::specs::Reading::record_judged))]
+fn judge_record(bytes: &[u8], offset: Offset, order: Order) -> Result<(), Refusal>
     requires { offset.0 ≤ length bytes.now }
-    ensures answer { judged_answer result ≡ record_judged order bytes.now offset.0 }
+    ensures answer { answer_of result ≡ record_judged order bytes.now offset.0 }
 {
     let left = bytes.len() - offset.0;
     if left < 2 {
-        return Judged::Refused(Refusal::FileEnds(offset));
+        return Err(Refusal::FileEnds(offset));
     }
     let mark = number_at(bytes, offset);
     let length = length_here(mark, order);
     if length == 0 {
-        return Judged::Refused(Refusal::Mark(offset));
+        return Err(Refusal::Mark(offset));
     }
     if left < length {
-        return Judged::Refused(Refusal::FileEnds(offset));
+        return Err(Refusal::FileEnds(offset));
     }
-    Judged::Taken
-}
-
-// What the order allows after some LN and RT records.
-fn order_after(counts: Counts) -> Order
-    ensures order { result ≡ order_after counts.starts }
-{
-    if counts.starts == 0 {
-        return Order::Lines;
-    }
-    Order::Starts
+    Ok(())
 }
 
 // The record with a mark after some LN and RT records: the 8,193rd LN is refused with 2, the 17th RT with 4.
-fn counted_record(mark: u16, counts: Counts) -> Record
-    requires { (mark ≢ 20044 → mark ≢ 21586 → mark ≡ 20037) × (offset_after counts.lines counts.starts < 18446744073709551616) }
+#[tactic(auto, unfolding(crate::specs::Reading::record_counted))]
+fn counted_record(mark: u16, counts: Counts) -> Result<Record, Refusal>
+    requires { (mark ≢ mark_ln → mark ≢ mark_rt → mark ≡ mark_en) × (offset_after counts.lines counts.starts < 18446744073709551616) }
     ensures record { record_answer result ≡ record_counted mark counts.lines counts.starts }
 {
-    let m = counts.lines;
-    let s = counts.starts;
-    let offset = Offset(6 + 6 * m + 4 * s);
     match mark {
-        // LN
-        20044 => {
-            if m == 8192 {
-                return Record::Refused(Refusal::FileLineCount(offset));
+        LN => {
+            if counts.lines == MOST_LINES {
+                return Err(Refusal::FileLineCount(counts.offset()));
             }
-            Record::Line
+            Ok(Record::Line)
         }
-        // RT
-        21586 => {
-            if s == 16 {
-                return Record::Refused(Refusal::FileStartCount(offset));
+        RT => {
+            if counts.starts == MOST_STARTS {
+                return Err(Refusal::FileStartCount(counts.offset()));
             }
-            Record::Start
+            Ok(Record::Start)
         }
-        // EN
-        _ => Record::End,
+        _ => Ok(Record::End),
     }
 }
 
 // The record after some LN and RT records.
-fn record_after(bytes: &[u8], counts: Counts) -> Record
+#[tactic(auto, unfolding(crate::specs::Reading::record_after))]
+fn record_after(bytes: &[u8], counts: Counts) -> Result<Record, Refusal>
     requires { offset_after counts.lines counts.starts ≤ length bytes.now }
     ensures record { record_answer result ≡ record_after bytes.now counts.lines counts.starts }
 {
-    let m = counts.lines;
-    let s = counts.starts;
-    let offset = Offset(6 + 6 * m + 4 * s);
-    let order = order_after(counts);
-    let judged = judge_record(bytes, offset, order);
-    if let Judged::Refused(refusal) = judged {
-        return Record::Refused(refusal);
-    }
-    let mark = number_at(bytes, offset);
-    counted_record(mark, counts)
+    let offset = counts.offset();
+    judge_record(bytes, offset, counts.order())?;
+    counted_record(number_at(bytes, offset), counts)
 }
 
 // EN after some LN and RT records: 22 is tried before 23.
-fn read_end(bytes: &[u8], counts: Counts) -> Reading
+#[tactic(auto, unfolding(crate::specs::Reading::end_read))]
+fn read_end(bytes: &[u8], counts: Counts) -> Result<Found, Refusal>
     requires { offset_after counts.lines counts.starts + 4 ≤ length bytes.now }
     ensures answer { reading_answer result ≡ end_read bytes.now counts.lines counts.starts }
 {
-    let lines = counts.lines;
-    let starts = counts.starts;
-    let at = 6 + 6 * lines + 4 * starts;
+    let at = counts.offset().0;
     let count = number_at(bytes, Offset(at + 2)) as usize;
-    if count != lines {
-        return Reading::Refused(Refusal::EndCount(Offset(at)));
+    if count != counts.lines {
+        return Err(Refusal::EndCount(Offset(at)));
     }
     if at + 4 < bytes.len() {
-        return Reading::Refused(Refusal::BytesFollow(Offset(at + 4)));
+        return Err(Refusal::BytesFollow(Offset(at + 4)));
     }
     let stations = number_at(bytes, Offset(2)) as usize;
     let level = Level(number_at(bytes, Offset(4)) as usize);
-    Reading::Network(Found {
+    Ok(Found {
         stations,
         level,
-        lines,
-        starts,
+        counts,
     })
 }
 
 // The records after NW, taken in order.
-fn read_records(bytes: &[u8]) -> Reading
+fn read_records(bytes: &[u8]) -> Result<Found, Refusal>
     requires { 6 ≤ length bytes.now }
     ensures answer { reading_answer result ≡ records_read bytes.now 0 0 (length bytes.now) }
 {
@@ -203,24 +191,20 @@ fn read_records(bytes: &[u8]) -> Reading
     let mut starts = 0;
     loop {
         let counts = Counts { lines, starts };
-        let record = record_after(bytes, counts);
-        match record {
+        match record_after(bytes, counts)? {
             Record::Line => lines += 1,
             Record::Start => starts += 1,
             Record::End => return read_end(bytes, counts),
-            Record::Refused(refusal) => return Reading::Refused(refusal),
         }
     }
 }
 
 // What the bytes of a file say: all its records, looked at and not yet copied.
-pub fn read_file(bytes: &[u8]) -> Reading
+#[tactic(auto, unfolding(crate::specs::Reading::file_read))]
+pub fn read_file(bytes: &[u8]) -> Result<Found, Refusal>
     ensures answer { reading_answer result ≡ file_read bytes.now }
 {
-    let judged = judge_record(bytes, Offset(0), Order::First);
-    if let Judged::Refused(refusal) = judged {
-        return Reading::Refused(refusal);
-    }
+    judge_record(bytes, Offset(0), Order::First)?;
     read_records(bytes)
 }
 
@@ -281,25 +265,13 @@ pub fn copy_network(bytes: &[u8], counts: Counts, lines: &mut [u16], starts: &mu
 }
 
 // Reads a network file: the room, then all its records, and only then the lent buffers are written.
-pub fn read(bytes: &[u8], lines: &mut [u16], starts: &mut [u16]) -> Reading
+pub fn read(bytes: &[u8], lines: &mut [u16], starts: &mut [u16]) -> Result<Found, Refusal>
     ensures allowed { ReadAllows bytes.now lines.old starts.old result lines.new starts.new }
 {
-    if lines.len() < 16384 {
-        return Reading::Refused(Refusal::Room);
+    if lines.len() < 2 * MOST_LINES || starts.len() < MOST_STARTS {
+        return Err(Refusal::Room);
     }
-    if starts.len() < 16 {
-        return Reading::Refused(Refusal::Room);
-    }
-    let reading = read_file(bytes);
-    match reading {
-        Reading::Network(found) => {
-            let counts = Counts {
-                lines: found.lines,
-                starts: found.starts,
-            };
-            copy_network(bytes, counts, lines, starts);
-            Reading::Network(found)
-        }
-        Reading::Refused(refusal) => Reading::Refused(refusal),
-    }
+    let found = read_file(bytes)?;
+    copy_network(bytes, found.counts, lines, starts);
+    Ok(found)
 }

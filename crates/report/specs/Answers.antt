@@ -1,9 +1,8 @@
 -- What writing a text answers, and what it leaves in the buffer.
 -- Assumes nothing.
-use Rattle.std.specs.Prelude.{ℕ, ◌+◌, ◌*◌, ◌/◌, Bool, ◌||◌, List, ◌++◌, length, drop, ltb}
+use Rattle.std.specs.Prelude.{ℕ, ◌+◌, ◌*◌, ◌/◌, Bool, ◌||◌, List, ◌++◌, length, drop, ltb, Result, Ok, Err}
 use Rattle.laws.specs.Fold.{pick}
-use Rattle.report.specs.declared.Written.{Written}
-use Rattle.report.specs.declared.Written.TheVariants.{Bytes, TooShort}
+use Rattle.report.specs.declared.TooShort.{TooShort}
 
 -- Whether a buffer has too little room for what keep writes: 128 bytes for the header, 64 for each line. No room is enough for a list of over 16,384 numbers.
 unfoldable pub keep_short : List ℕ → ℕ → Bool
@@ -14,8 +13,8 @@ unfoldable pub refused_short : ℕ → Bool
 refused_short room = ltb room 64
 
 -- The number of bytes written, or that the buffer is too short.
-abbrev pub written_answer : Bool → List ℕ → Written
-written_answer short text = pick short TooShort (Bytes (length text))
+abbrev pub written_answer : Bool → List ℕ → Result ℕ TooShort
+written_answer short text = pick short (Err record {}) (Ok (length text))
 
 -- The buffer after it: written from the front, later places untouched; as it was where it is too short.
 abbrev pub written_over : Bool → List ℕ → List ℕ → List ℕ

@@ -2,71 +2,78 @@
 #![tactic(auto)]
 
 ghost use Rattle.std.specs.Prelude.{◌≡◌, ◌<◌, ◌≤◌, length};
-ghost use Rattle.kinds.specs.Answers.{judged_answer};
+ghost use Rattle.kinds.specs.Answers.{answer_of};
 ghost use Rattle.request.specs.Judging.{start_count_judged, start_judged, starts_judged, sizes_judged, request_judged};
 
 use judging::judge_list;
-use kinds::{Judged, Level, LineList, Position, Refusal, Round, first_refusal, is_refused};
+use kinds::{Level, LineList, Position, Refusal, Round};
 use limits::{judge_length, judge_level, judge_room, judge_stations};
 
 // Refusal 4: the number of starting stations is not k.
-fn judge_start_count(level: Level, starts: &[u16]) -> Judged
-    ensures answer { judged_answer result ≡ start_count_judged level.0 starts.now }
+#[tactic(auto, unfolding(crate::specs::Judging::start_count_judged))]
+fn judge_start_count(level: Level, starts: &[u16]) -> Result<(), Refusal>
+    ensures answer { answer_of result ≡ start_count_judged level.0 starts.now }
 {
     if starts.len() == level.0 {
-        return Judged::Taken;
+        return Ok(());
     }
-    Judged::Refused(Refusal::StartCount)
+    Err(Refusal::StartCount)
 }
 
 // Refusal 9: the starting station at a position is n or more. Its round is one more than the position.
-fn judge_start(n: usize, starts: &[u16], position: Position) -> Judged
+#[tactic(auto, unfolding(crate::specs::Judging::start_judged))]
+fn judge_start(n: usize, starts: &[u16], position: Position) -> Result<(), Refusal>
     requires { (position.0 < length starts.now) × (length starts.now ≤ 16) }
-    ensures answer { judged_answer result ≡ start_judged n starts.now position.0 }
+    ensures answer { answer_of result ≡ start_judged n starts.now position.0 }
 {
     let at = position.0 as usize;
     if n <= starts[at] as usize {
-        return Judged::Refused(Refusal::StartOutside(Round((at + 1) as u8)));
+        return Err(Refusal::StartOutside(Round((at + 1) as u8)));
     }
-    Judged::Taken
+    Ok(())
 }
 
 // Each starting station, round by round.
-fn judge_starts(n: usize, starts: &[u16]) -> Judged
+fn judge_starts(n: usize, starts: &[u16]) -> Result<(), Refusal>
     requires { length starts.now ≤ 16 }
-    ensures answer { judged_answer result ≡ starts_judged n starts.now }
+    ensures answer { answer_of result ≡ starts_judged n starts.now }
 {
-    let count = starts.len();
-    for q in 0..count {
-        let judged = judge_start(n, starts, Position(q as u16));
-        if is_refused(judged) {
-            return judged;
-        }
+    for q in 0..starts.len() {
+        judge_start(n, starts, Position(q as u16))?;
     }
-    Judged::Taken
+    Ok(())
 }
 
 // The sizes of a request: refusals 1, 2, 3, 4 and 5.
-fn judge_sizes(n: usize, level: Level, lines: &[u16], starts: &[u16], short: bool) -> Judged
-    ensures answer { judged_answer result ≡ sizes_judged n level.0 lines.now starts.now short }
+#[tactic(auto, unfolding(crate::specs::Judging::sizes_judged))]
+fn judge_sizes(
+    n: usize,
+    level: Level,
+    lines: &[u16],
+    starts: &[u16],
+    short: bool,
+) -> Result<(), Refusal>
+    ensures answer { answer_of result ≡ sizes_judged n level.0 lines.now starts.now short }
 {
-    let counts = first_refusal(judge_start_count(level, starts), judge_room(short));
-    let sizes = first_refusal(judge_level(level), counts);
-    let lists = first_refusal(judge_length(LineList::Only, lines), sizes);
-    first_refusal(judge_stations(n), lists)
+    judge_stations(n)?;
+    judge_length(LineList::Only, lines)?;
+    judge_level(level)?;
+    judge_start_count(level, starts)?;
+    judge_room(short)
 }
 
 // The judge of a request: 1, 2, 3, 4, 5; then each line in list order for 6, 7, 8; then 9.
-pub fn judge_request(n: usize, level: Level, lines: &[u16], starts: &[u16], short: bool) -> Judged
-    ensures answer { judged_answer result ≡ request_judged n level.0 lines.now starts.now short }
+#[tactic(auto, unfolding(crate::specs::Judging::request_judged))]
+pub fn judge_request(
+    n: usize,
+    level: Level,
+    lines: &[u16],
+    starts: &[u16],
+    short: bool,
+) -> Result<(), Refusal>
+    ensures answer { answer_of result ≡ request_judged n level.0 lines.now starts.now short }
 {
-    let sizes = judge_sizes(n, level, lines, starts, short);
-    if is_refused(sizes) {
-        return sizes;
-    }
-    let each = judge_list(LineList::Only, n, lines);
-    if is_refused(each) {
-        return each;
-    }
+    judge_sizes(n, level, lines, starts, short)?;
+    judge_list(LineList::Only, n, lines)?;
     judge_starts(n, starts)
 }

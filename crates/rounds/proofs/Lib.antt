@@ -1,2 +1,3 @@
 pub mod Seeing
 pub mod Tables
+pub mod Sightings

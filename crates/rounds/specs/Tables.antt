@@ -1,18 +1,17 @@
 -- The tables of one round's check, and its verdicts by the tables of what is seen.
 -- Only the helpers speak of it. Assumes nothing.
-use Rattle.std.specs.Prelude.{ℕ, ◌/◌, ◌≡◌, Bool, false, not, ◌&&◌, List, length, get_or, ltb, eqb}
+use Rattle.std.specs.Prelude.{ℕ, ◌/◌, ◌≡◌, false, not, ◌&&◌, List, length, get_or, ltb, eqb}
 use Rattle.laws.specs.Fold.{first_from}
 use Rattle.network.specs.Lines.{end_one, end_two}
 use Rattle.plans.specs.Verdicts.{Kind.C, Kind.D, Kind.E, Verdict, Verdict.accepted, fault_if, ◌or_else◌, is_faulty}
 use Rattle.plans.specs.Checking.{in_play}
+use Rattle.seen.specs.declared.Sighting.{Sighting}
 use Rattle.seen.specs.Tables.{Seen}
 
 -- There is room for each table.
-pub record Room (n : ℕ) (positions earliest : List ℕ) (parents others : List Bool) (trees : List ℕ) : Type 0 where
+pub record Room (n : ℕ) (positions : List ℕ) (sightings : List Sighting) (trees : List ℕ) : Type 0 where
   pub positions_room : length positions ≡ n
-  pub earliest_room : length earliest ≡ n
-  pub parents_room : length parents ≡ n
-  pub others_room : length others ≡ n
+  pub sightings_room : length sightings ≡ n
   pub trees_room : length trees ≡ n
 
 -- C before D, by the tables.

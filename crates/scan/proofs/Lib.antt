@@ -1,3 +1,3 @@
-pub mod Laid
+pub mod Scannable
 pub mod Next
 pub mod Start

@@ -3,16 +3,12 @@
 use Rattle.std.specs.Prelude.{ℕ, ◌*◌, ◌<◌, ◌≤◌, ◌≡◌, List, length}
 use Rattle.network.specs.Lines.{end_one, end_two}
 
--- Every end is a station, there are few lines, and each has its rank.
-pub record Laid (n : ℕ) (lines ranks : List ℕ) : Type 0 where
+-- A network that rounds can scan, with a rank for each line: there are stations, no more than a set of 16 words has bits; every end is a station,
+-- and there are few lines, each with its rank.
+pub record Scannable (n : ℕ) (lines ranks : List ℕ) : Type 0 where
+  pub some : 0 < n
+  pub most : n ≤ 1024
   pub one_in : (p : ℕ) → p < length ranks → end_one lines p < n
   pub two_in : (p : ℕ) → p < length ranks → end_two lines p < n
   pub few : length lines ≤ 16384
   pub pairs : length lines ≡ 2 * length ranks
-
--- There are stations, at most 1,024, and each of the two sets has 16 words of 64 bits, a bit for each station.
-pub record Room (n : ℕ) (marked scanned : List ℕ) : Type 0 where
-  pub some : 0 < n
-  pub most : n ≤ 1024
-  pub marks_room : length marked ≡ 16
-  pub scans_room : length scanned ≡ 16

@@ -4,10 +4,19 @@ ghost use Rattle.programs.specs.Keep.{keep_output};
 ghost use Rattle.programs.specs.Weak.{weak_output};
 ghost use Rattle.tapuhzel.specs.Calls.{read_call, write_call, text_call};
 
-use codes::{say_refusal, say_taken, say_written};
+use codes::{say, say_written};
 use kinds::Level;
-use reading::Reading;
-use writing::Writing;
+use reading::{Counts, Found};
+
+// What C is told of a file that is refused.
+const NOTHING: Found = Found {
+    stations: 0,
+    level: Level(0),
+    counts: Counts {
+        lines: 0,
+        starts: 0,
+    },
+};
 
 // Reads a network file into lent buffers, and says how many stations, lines and starts it has and its level.
 pub fn tapuhzel_read(
@@ -24,22 +33,12 @@ pub fn tapuhzel_read(
     ensures call { ((result, place.new, list.new), n.new, level.new, m.new, s.new, lines.new, starts.new) ≡ read_call bytes.now lines.old starts.old }
 {
     let answer = reading::read(bytes, lines, starts);
-    match answer {
-        Reading::Network(found) => {
-            *n = found.stations;
-            *level = found.level.0;
-            *m = found.lines;
-            *s = found.starts;
-            say_taken(place, list)
-        }
-        Reading::Refused(refusal) => {
-            *n = 0;
-            *level = 0;
-            *m = 0;
-            *s = 0;
-            say_refusal(refusal, place, list)
-        }
-    }
+    let found = answer.unwrap_or(NOTHING);
+    *n = found.stations;
+    *level = found.level.0;
+    *m = found.counts.lines;
+    *s = found.counts.starts;
+    say(&answer, place, list)
 }
 
 // Writes a network as a file, and says how many bytes it has.
@@ -56,16 +55,8 @@ pub fn tapuhzel_write(
     ensures call { ((result, place.new, list.new), count.new, bytes.new) ≡ write_call n level lines.now starts.now bytes.old }
 {
     let answer = writing::write(n, Level(level), lines, starts, bytes);
-    match answer {
-        Writing::Bytes(written) => {
-            *count = written;
-            say_taken(place, list)
-        }
-        Writing::Refused(refusal) => {
-            *count = 0;
-            say_refusal(refusal, place, list)
-        }
-    }
+    *count = answer.unwrap_or(0);
+    say(&answer, place, list)
 }
 
 // What keep writes of a file's bytes.

@@ -9,25 +9,17 @@ mod file; // file.rt: the network file, and the texts of the programs
 ghost use Rattle.std.specs.Prelude.{◌≡◌};
 ghost use Rattle.tapuhzel.specs.Calls.{judge_call, prune_call, copy_call, unite_call, joined_call};
 
-use codes::{say_refusal, say_taken};
+use codes::say;
 pub use file::{tapuhzel_keep_text, tapuhzel_read, tapuhzel_weak_text, tapuhzel_write};
-use joined::Answered;
-use kept::Copied;
-use kinds::{Judged, Level, Station};
-use prune::Pruned;
+use kinds::{Level, Station};
 pub use spot::tapuhzel_weak;
-use unite::United;
 pub use verdict::tapuhzel_check;
 
 // The judge of a network of n stations and a list of lines.
 pub fn tapuhzel_judge(n: usize, lines: &[u16], place: &mut usize, list: &mut u8) -> u8
     ensures call { (result, place.new, list.new) ≡ judge_call n lines.now }
 {
-    let judged = judging::judge(n, lines);
-    if let Judged::Refused(refusal) = judged {
-        return say_refusal(refusal, place, list);
-    }
-    say_taken(place, list)
+    say(&judging::judge(n, lines), place, list)
 }
 
 // Prunes a network at a level: ranks, orders and the count of kept lines.
@@ -45,16 +37,8 @@ pub fn tapuhzel_prune(
     ensures call { ((result, place.new, list.new), kept.new, ranks.new, orders.new) ≡ prune_call n level lines.now starts.now ranks.old orders.old }
 {
     let answer = prune::prune(n, Level(level), lines, starts, ranks, orders);
-    match answer {
-        Pruned::Kept(count) => {
-            *kept = count;
-            say_taken(place, list)
-        }
-        Pruned::Refused(refusal) => {
-            *kept = 0;
-            say_refusal(refusal, place, list)
-        }
-    }
+    *kept = answer.unwrap_or(0);
+    say(&answer, place, list)
 }
 
 // Copies the kept lines, those of nonzero rank, and says how many.
@@ -69,16 +53,8 @@ pub fn tapuhzel_copy(
     ensures call { ((result, place.new, list.new), count.new, room.new) ≡ copy_call lines.now ranks.now room.old }
 {
     let answer = kept::copy_kept(lines, ranks, room);
-    match answer {
-        Copied::Lines(lines) => {
-            *count = lines;
-            say_taken(place, list)
-        }
-        Copied::Refused(refusal) => {
-            *count = 0;
-            say_refusal(refusal, place, list)
-        }
-    }
+    *count = answer.unwrap_or(0);
+    say(&answer, place, list)
 }
 
 // Unites two lists, and says how many lines the union has.
@@ -94,16 +70,8 @@ pub fn tapuhzel_unite(
     ensures call { ((result, place.new, list.new), count.new, room.new) ≡ unite_call n first.now second.now room.old }
 {
     let answer = unite::unite(n, first, second, room);
-    match answer {
-        United::Lines(lines) => {
-            *count = lines;
-            say_taken(place, list)
-        }
-        United::Refused(refusal) => {
-            *count = 0;
-            say_refusal(refusal, place, list)
-        }
-    }
+    *count = answer.unwrap_or(0);
+    say(&answer, place, list)
 }
 
 // Whether two stations are joined when others are taken away.
@@ -120,18 +88,6 @@ pub fn tapuhzel_joined(
     ensures call { ((result, place.new, list.new), joined.new) ≡ joined_call n lines.now away.now one two }
 {
     let answer = joined::joined(n, lines, away, Station(one), Station(two));
-    match answer {
-        Answered::Joined => {
-            *joined = 1;
-            say_taken(place, list)
-        }
-        Answered::Apart => {
-            *joined = 0;
-            say_taken(place, list)
-        }
-        Answered::Refused(refusal) => {
-            *joined = 0;
-            say_refusal(refusal, place, list)
-        }
-    }
+    *joined = u8::from(answer.unwrap_or(false));
+    say(&answer, place, list)
 }

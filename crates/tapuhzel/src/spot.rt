@@ -2,9 +2,8 @@
 ghost use Rattle.std.specs.Prelude.{◌≡◌};
 ghost use Rattle.tapuhzel.specs.Calls.{weak_call};
 
-use codes::{say_found, say_refusal, say_stands, say_taken};
+use codes::{say, say_found};
 use kinds::Level;
-use weakness::Searched;
 
 // The weak spot of a network at a level from 1 to 3.
 pub fn tapuhzel_weak(
@@ -23,14 +22,6 @@ pub fn tapuhzel_weak(
     ensures call { ((result, place.new, list.new), weak.new, size.new, first.new, second.new, one.new, two.new) ≡ weak_call n level lines.now }
 {
     let answer = weakness::find_weak_spot(n, Level(level), lines);
-    match answer {
-        Searched::Decided(found) => {
-            say_found(found, weak, size, first, second, one, two);
-            say_taken(place, list)
-        }
-        Searched::Refused(refusal) => {
-            say_stands(weak, size, first, second, one, two);
-            say_refusal(refusal, place, list)
-        }
-    }
+    say_found(answer.unwrap_or(None), weak, size, first, second, one, two);
+    say(&answer, place, list)
 }

@@ -2,8 +2,8 @@
 ghost use Rattle.std.specs.Prelude.{◌≡◌};
 ghost use Rattle.tapuhzel.specs.Calls.{check_call};
 
-use codes::{say_accepted, say_refusal, say_taken, say_verdict};
-use forests::Checked;
+use codes::{say, say_verdict};
+use entries::Verdict;
 use kinds::Level;
 
 // The check of forests, over ranks and orders from anywhere.
@@ -22,14 +22,6 @@ pub fn tapuhzel_check(
     ensures call { ((result, place.new, list.new), kind.new, round.new, at.new) ≡ check_call n level lines.now ranks.now orders.now }
 {
     let answer = forests::check(n, Level(level), lines, ranks, orders);
-    match answer {
-        Checked::Found(verdict) => {
-            say_verdict(verdict, kind, round, at);
-            say_taken(place, list)
-        }
-        Checked::Refused(refusal) => {
-            say_accepted(kind, round, at);
-            say_refusal(refusal, place, list)
-        }
-    }
+    say_verdict(answer.unwrap_or(Verdict::Accepted), kind, round, at);
+    say(&answer, place, list)
 }

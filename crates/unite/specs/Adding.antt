@@ -1,10 +1,10 @@
 -- Uniting as its helpers speak of it: they ask the set of places whose lines stand in the first list, and not the first list itself.
 -- Assumes nothing.
-use Rattle.std.specs.Prelude.{ℕ, ◌/◌, ◌<◌, ◌≡◌, Bool, not, List, [], ◌∷◌, ◌++◌, length}
-use Rattle.laws.specs.Fold.{pick}
+use Rattle.std.specs.Prelude.{ℕ, ◌/◌, ◌<◌, ◌≡◌, Bool, not, List, length}
 use Rattle.bits.specs.Sets.{is_in}
 use Rattle.network.specs.Lines.{end_one, end_two}
 use Rattle.network.specs.Judging.{stood_before}
+use Rattle.kept.specs.Kept.{put_line}
 
 -- The set has just the places of those lines of the second list that stand in the first.
 pub record Marks (first second again : List ℕ) : Type 0 where
@@ -16,4 +16,4 @@ is_new again p = not (is_in again p)
 
 -- The line at place p, after those that stand, if it is new.
 unfoldable pub add_new : List ℕ → List ℕ → ℕ → List ℕ → List ℕ
-add_new again lines p union = pick (is_new again p) (union ++ (end_one lines p ∷ (end_two lines p ∷ []))) union
+add_new again lines = put_line (is_new again) lines

@@ -1,20 +1,19 @@
 -- A sound list, pruned from station 0 at a level from 1 to 3: the request is in order, and the kept lines, of which there are few, have the
 -- list's own weak spot. Assumes nothing.
 use Prim.Native.Nat.{ℕ, ◌-◌, ◌*◌, ◌≤◌}
-use mathlib.Core.Path.{◌≡◌, refl, ◌∙◌}
-use mathlib.Core.Bool.{false}
+use mathlib.Core.Path.{◌≡◌, ◌∙◌}
 use mathlib.Core.List.{List, ◌++◌}
 use native.Mathlib.Nat.{mul-le-mul_right}
 use native.Mathlib.Omega.{arith}
 use lib.ListN.{length, take, replicate, length-append}
-use lib.Seq.{get_or-take, length-take-le}
+use lib.Seq.{get_or-take}
+use Rattle.std.specs.Prelude.{Result}
+use Rattle.kinds.specs.declared.Refusal.{Refusal}
 use Rattle.laws.proofs.Lists.{replicate_at}
 use Rattle.laws.proofs.Count.{count_most}
 use Rattle.network.specs.Faults.{Sound}
-use Rattle.request.specs.Requests.{Request}
 use Rattle.kept.specs.Kept.{is_kept, kept_count, kept_of}
 use Rattle.kept.specs.Answers.{CopyAllows}
-use Rattle.kept.specs.declared.Copied.{Copied}
 use Rattle.kept.proofs.After.{front_written}
 use Rattle.kept.proofs.Copying.{kept_length, copy_given, count_front, kept_front}
 use Rattle.rule.proofs.Plans.{pruned_size}
@@ -34,21 +33,6 @@ module _ {n k : ℕ} {lines : List ℕ} (searchable : Searchable n k lines) wher
 
   starts_in : StartsIn n k (from_zero k)
   starts_in i l = rw (get_or-take {A = ℕ} k (replicate 3 0) i 0 l, replicate_at {A = ℕ} 3 i 0) (omega (arith, sound.within.some))
-
-  pub zero_request : Request n k lines (from_zero k) false
-  zero_request =
-      record {
-        sized =
-            record {
-              within = sound.within;
-              some = searchable.some;
-              most = omega (arith, searchable.most);
-              starts_count = length-take-le k (replicate 3 0) searchable.most;
-              room = refl;
-            };
-        sound = sound;
-        starts_in = starts_in;
-      }
 
   -- the kept lines are sound, and have the whole list's weak spot
   pub pruned_sound : Sound n (pruned_lines n k lines (from_zero k))
@@ -78,7 +62,7 @@ module _ {n k : ℕ} {lines : List ℕ} (searchable : Searchable n k lines) wher
       )
 
   -- what copying by ranks that begin with them leaves at the front of its room
-  pub front_copied : {ranks room room' : List ℕ} {copied : Copied} (rest : List ℕ) → ranks ≡ ranks_made n k lines ++ rest → 2 * kept_count (ranks_made n k lines) ≤ length room
+  pub front_copied : {ranks room room' : List ℕ} {copied : Result ℕ Refusal} (rest : List ℕ) → ranks ≡ ranks_made n k lines ++ rest → 2 * kept_count (ranks_made n k lines) ≤ length room
       → CopyAllows lines ranks room copied room' → take (2 * kept_count (ranks_made n k lines)) room' ≡ pruned_lines n k lines (from_zero k)
   front_copied {ranks} {room} {room'} {copied} rest is fits copies =
       let R = ranks_made n k lines in

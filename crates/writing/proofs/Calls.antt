@@ -7,6 +7,8 @@ use native.Mathlib.Omega.{arith}
 use lib.Dec.{ltb}
 use lib.ListN.{length, get_or, take, drop}
 use lib.Seq.{take_at}
+use Rattle.std.specs.Prelude.{Result, Ok}
+use Rattle.kinds.specs.declared.Refusal.{Refusal}
 use Rattle.kinds.specs.Answers.{Answer.given, is_refused}
 use Rattle.kinds.proofs.Answers.{then_given}
 use Rattle.request.specs.Judging.{request_judged}
@@ -16,19 +18,16 @@ use Rattle.reading.specs.Parts.{placed}
 use Rattle.reading.specs.Answers.{facts_of, ReadAllows}
 use Rattle.reading.specs.Files.{network_found}
 use Rattle.reading.specs.declared.Found.{Found}
-use Rattle.reading.specs.declared.Reading.{Reading}
-use Rattle.reading.specs.declared.Reading.TheVariants.{Network}
 use Rattle.reading.proofs.Contents.{read_room}
 use Rattle.reading.proofs.Into.{read_into}
 use Rattle.reading.proofs.Determined.{reading_determined}
 use Rattle.writing.specs.Writing.{file_bytes, file_length, write_answer, bytes_after}
 use Rattle.writing.specs.Answers.{WriteAllows}
-use Rattle.writing.specs.declared.Writing.TheVariants.{Bytes}
 use Rattle.writing.proofs.ReadWritten.{length_file, read_written}
 use Rattle.writing.proofs.WrittenRead.{written_read}
 
 -- What was written was in order, and it is the network's file.
-module _ {n k count : ℕ} {lines starts bytes bytes' : List ℕ} (call : WriteAllows n k lines starts bytes (Bytes count) bytes') where
+module _ {n k count : ℕ} {lines starts bytes bytes' : List ℕ} (call : WriteAllows n k lines starts bytes (Ok count) bytes') where
   in_order : Request n k lines starts (ltb (length bytes) (file_length lines starts)) × (file_length lines starts ≡ count)
   unfolding write_answer
   in_order =
@@ -43,24 +42,24 @@ module _ {n k count : ℕ} {lines starts bytes bytes' : List ℕ} (call : WriteA
       let is : bytes' ≡ file ++ drop (0 + length file) bytes = rw (← call.answer) at call.new_bytes in
       rw is (take_at file (drop (0 + length file) bytes) count (length_file n k lines starts ∙ in_order.1))
 
-pub written_then_read : {n k count : ℕ} {lines starts bytes bytes' room room' starts_room starts_room' : List ℕ} {said : Reading}
-    → WriteAllows n k lines starts bytes (Bytes count) bytes' → ReadAllows (take count bytes') room starts_room said room' starts_room'
+pub written_then_read : {n k count : ℕ} {lines starts bytes bytes' room room' starts_room starts_room' : List ℕ} {said : Result Found Refusal}
+    → WriteAllows n k lines starts bytes (Ok count) bytes' → ReadAllows (take count bytes') room starts_room said room' starts_room'
     → 16384 ≤ length room → 16 ≤ length starts_room
-    → (said ≡ Network (network_found n k lines starts)) × (take (length lines) room' ≡ lines) × (take (length starts) starts_room' ≡ starts)
+    → (said ≡ Ok (network_found n k lines starts)) × (take (length lines) room' ≡ lines) × (take (length starts) starts_room' ≡ starts)
 written_then_read {n} {k} {count} {lines} {starts} {bytes} {bytes'} {room} {room'} {starts_room} {starts_room'} {said} writes reads fits starts_fit =
     let file = file_bytes n k lines starts in
     let found = network_found n k lines starts in
     let request = (in_order writes).0 in
     let (facts, lines_are, starts_are) = read_written n k lines starts (ltb (length bytes) (file_length lines starts)) request in
     let reads' : ReadAllows file room starts_room said room' starts_room' = rw (written_bytes writes) at reads in
-    let says : said ≡ Network found = reading_determined said (Network found) (reads'.answer ∙ (read_room file room starts_room fits starts_fit ∙ facts)) in
+    let says : said ≡ Ok found = reading_determined said (Ok found) (reads'.answer ∙ (read_room file room starts_room fits starts_fit ∙ facts)) in
     let into = read_into (rw says at reads') in
     let even : 2 * (length lines / 2) ≡ length lines = omega (arith, request.sized.within.even) in
     (says, rw even at into.lines_part ∙ lines_are, into.starts_part ∙ starts_are)
 
 pub read_then_written : {count : ℕ} {bytes room lines starts_room starts out out' : List ℕ} {found : Found} → ((i : ℕ) → i < length bytes → get_or bytes i 0 < 256)
-    → ReadAllows bytes room starts_room (Network found) lines starts
-    → WriteAllows found.stations found.level.0 (take (2 * found.lines) lines) (take found.starts starts) out (Bytes count) out'
+    → ReadAllows bytes room starts_room (Ok found) lines starts
+    → WriteAllows found.stations found.level.0 (take (2 * found.counts.lines) lines) (take found.counts.starts starts) out (Ok count) out'
     → take count out' ≡ bytes
 read_then_written {bytes = bytes} {found = found} small reads writes =
     let into = read_into reads in

@@ -8,16 +8,9 @@ ghost use Rattle.reading.specs.Reading.{offset_after};
 ghost use Rattle.writing.specs.Writing.{one_record, two_record, line_record, start_record, file_bytes, file_length};
 ghost use Rattle.writing.specs.Answers.{WriteAllows};
 
-use kinds::{Judged, Level, Offset, Refusal};
-use reading::Counts;
+use kinds::{Level, Offset, Refusal};
+use reading::{Counts, EN, LN, NW, RT};
 use request::judge_request;
-
-// What writing answers: how many bytes it wrote, or the first refusal that holds.
-#[derive(Clone, Copy)]
-pub enum Writing {
-    Bytes(usize),
-    Refused(Refusal),
-}
 
 // Whether a byte buffer is shorter than a file with these counts. No product is made that could be too large.
 fn is_short(counts: Counts, room: usize) -> bool
@@ -36,13 +29,13 @@ fn is_short(counts: Counts, room: usize) -> bool
 }
 
 // Puts a number in at an offset: 16 bits, low byte first.
+#[tactic(auto, unfolding(reading::specs::Parts::placed))]
 fn put_number(bytes: &mut [u8], offset: Offset, number: u16)
     requires { offset.0 + 2 ≤ length bytes.old }
     ensures bytes { bytes.new ≡ placed bytes.old offset.0 (number_bytes number) }
 {
     let at = offset.0;
-    bytes[at] = (number % 256) as u8;
-    bytes[at + 1] = (number / 256) as u8;
+    bytes[at..at + 2].copy_from_slice(&number.to_le_bytes());
 }
 
 // Puts in a record of one number after its mark, as RT and EN.
@@ -70,16 +63,8 @@ fn write_lines(lines: &[u16], bytes: &mut [u8])
     requires { 6 + 6 * (length lines.now / 2) ≤ length bytes.old }
     ensures bytes { bytes.new ≡ placed bytes.old 6 (gathered (line_record lines.now) (length lines.now / 2)) }
 {
-    let count = lines.len() / 2;
-    for p in 0..count {
-        // LN
-        put_two(
-            bytes,
-            Offset(6 + 6 * p),
-            20044,
-            lines[2 * p],
-            lines[2 * p + 1],
-        );
+    for p in 0..lines.len() / 2 {
+        put_two(bytes, Offset(6 + 6 * p), LN, lines[2 * p], lines[2 * p + 1]);
     }
 }
 
@@ -88,10 +73,8 @@ fn write_starts(count: usize, starts: &[u16], bytes: &mut [u8])
     requires { offset_after count (length starts.now) ≤ length bytes.old }
     ensures bytes { bytes.new ≡ placed bytes.old (6 + 6 * count) (gathered (start_record starts.now) (length starts.now)) }
 {
-    let s = starts.len();
-    for q in 0..s {
-        // RT
-        put_one(bytes, Offset(6 + 6 * count + 4 * q), 21586, starts[q]);
+    for (q, start) in starts.iter().enumerate() {
+        put_one(bytes, Offset(6 + 6 * count + 4 * q), RT, *start);
     }
 }
 
@@ -103,18 +86,23 @@ fn write_file(n: usize, level: Level, lines: &[u16], starts: &[u16], bytes: &mut
 {
     let k = level.0 as u16;
     let m = lines.len() / 2;
-    // NW
-    put_two(bytes, Offset(0), 22350, n as u16, k);
+    put_two(bytes, Offset(0), NW, n as u16, k);
     write_lines(lines, bytes);
     write_starts(m, starts, bytes);
     let end = 6 + 6 * m + 4 * starts.len();
-    // EN
-    put_one(bytes, Offset(end), 20037, m as u16);
+    put_one(bytes, Offset(end), EN, m as u16);
     end + 4
 }
 
 // Writes a network as a file: it refuses as pruning does, with the byte buffer as the only room.
-pub fn write(n: usize, level: Level, lines: &[u16], starts: &[u16], bytes: &mut [u8]) -> Writing
+#[tactic(auto, unfolding(crate::specs::Writing::write_answer, crate::specs::Writing::bytes_after))]
+pub fn write(
+    n: usize,
+    level: Level,
+    lines: &[u16],
+    starts: &[u16],
+    bytes: &mut [u8],
+) -> Result<usize, Refusal>
     ensures allowed { WriteAllows n level.0 lines.now starts.now bytes.old result bytes.new }
 {
     let counts = Counts {
@@ -122,10 +110,6 @@ pub fn write(n: usize, level: Level, lines: &[u16], starts: &[u16], bytes: &mut 
         starts: starts.len(),
     };
     let short = is_short(counts, bytes.len());
-    let judged = judge_request(n, level, lines, starts, short);
-    if let Judged::Refused(refusal) = judged {
-        return Writing::Refused(refusal);
-    }
-    let count = write_file(n, level, lines, starts, bytes);
-    Writing::Bytes(count)
+    judge_request(n, level, lines, starts, short)?;
+    Ok(write_file(n, level, lines, starts, bytes))
 }

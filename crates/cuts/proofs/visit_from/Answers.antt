@@ -19,13 +19,13 @@ abbrev Held : After-pass_seen-visit → List ℕ → ℕ → Visit → Type 0
 Held c s a visit =
     let e = c.args in
     let l = c.loop-neighbour in
-    Open e.begins.now e.near.now s e.cut.now a l.waiting l.depths l.cut l.depth visit
+    Open e.neighbours.now.begins.now e.neighbours.now.near.now s e.cut.now a l.waiting l.depths l.cut l.depth visit
 
 abbrev FitIn : After-pass_seen-visit → Visit → Type 0
 FitIn c visit =
     let e = c.args in
     let l = c.loop-neighbour in
-    Fit e.begins.now e.depths.now e.cut.now l.depths l.cut l.depth visit
+    Fit e.neighbours.now.begins.now e.depths.now e.cut.now l.depths l.cut l.depth visit
 
 opens : (c : After-pass_seen-visit) → Held c c.args.depths.now c.args.first.0 c.loop-neighbour.visit
 opens c = let b = c.begin_visit-visit in c.loop-neighbour.invariant.2 c.args.depths.now c.args.first.0 b.ensures.depths b.ensures.visit.station
@@ -42,17 +42,17 @@ fits_passed c = open_fit (passes c (opens c))
 
 -- The neighbour that is visited next: a station, without a depth, so that one fewer will be without.
 abbrev neighbour : After-pass_seen-visit → ℕ
-neighbour c = get_or c.args.near.now c.pass_seen-visit.result.next.0 0
+neighbour c = get_or c.args.neighbours.now.near.now c.pass_seen-visit.result.next.0 0
 
 -- There is such a neighbour: the next entry is one of the station's own.
 abbrev HasNext : After-pass_seen-visit → Type 0
-HasNext c = c.pass_seen-visit.result.next.0 < get_or c.args.begins.now (c.pass_seen-visit.result.station.0 + 1) 0
+HasNext c = c.pass_seen-visit.result.next.0 < get_or c.args.neighbours.now.begins.now (c.pass_seen-visit.result.station.0 + 1) 0
 
 neighbour_in : (c : After-pass_seen-visit) → HasNext c → neighbour c < length c.loop-neighbour.depths
 neighbour_in c more =
     let f = fits_passed c in
     let r = c.pass_seen-visit.result in
-    omega (arith, f.size, c.requires.0.bound.stations r.station.0 r.next.0 f.station f.past more)
+    omega (arith, f.size, c.requires.0, c.args.neighbours.now.bound.stations r.station.0 r.next.0 (omega (arith, f.station, c.requires.0)) f.past more)
 
 neighbour_fresh : (c : After-pass_seen-visit) → HasNext c → get_or c.loop-neighbour.depths (neighbour c) 0 ≡ 0
 neighbour_fresh c more = c.pass_seen-visit.ensures.passed.fresh more
@@ -63,105 +63,79 @@ fewer c more = unseen_less c.loop-neighbour.depths (neighbour c) (c.loop-neighbo
 cut_in : (c : After-pass_seen-visit) → c.pass_seen-visit.result.station.0 < length c.loop-neighbour.cut
 cut_in c =
     let f = fits_passed c in
-    omega (arith, f.station, f.marked, c.requires.0.marks)
+    omega (arith, f.station, f.marked, c.requires.1)
 
 pub loop-neighbour-init : goal.loop-neighbour-init
 loop-neighbour-init c =
     let u = c.args.first.0 in
     let b = c.begin_visit-visit in
     let marked = b.new.depths in
-    let inside : u < length marked = omega (arith, b.auto.depths, c.requires.1) in
-    let deep : get_or marked u 0 ≡ 1 = rw b.ensures.depths (get_or-set_same c.args.depths.now u 1 0 c.requires.1) in
-    (refl, omega (arith, unseen_fewer marked u inside (omega arith), b.auto.depths, c.requires.0.most), λ r a e q. open_begun u e q inside b.ensures.visit)
+    let inside : u < length marked = omega (arith, b.auto.depths, c.requires.2) in
+    let deep : get_or marked u 0 ≡ 1 = rw b.ensures.depths (get_or-set_same c.args.depths.now u 1 0 c.requires.2) in
+    (refl, omega (arith, unseen_fewer marked u inside (omega arith), b.auto.depths, c.requires.0, c.args.neighbours.now.few), λ r a e q. open_begun u e q inside b.ensures.visit)
 
 pub pass_seen-visit-requires : goal.pass_seen-visit-requires
 pass_seen-visit-requires c =
     let a = c.args in
     let b = c.begin_visit-visit in
     let f = open_fit (c.loop-neighbour.invariant.2 a.depths.now a.first.0 b.ensures.depths b.ensures.visit.station) in
-    (subst (λ (n : ℕ). Bound n a.begins.now a.near.now) (sym f.size) c.requires.0.bound, omega (arith, f.size, f.station), f.past)
+    (f.size ∙ c.requires.0, omega (arith, f.size, f.station), f.past)
 
-pub bounds-begins-u : goal.bounds-begins-u
-bounds-begins-u c = omega (arith, (fits_passed (goal.at.bounds-begins-u c).After-pass_seen-visit).station, c.requires.0.bound.rooms)
-
-pub bounds-near-next : goal.bounds-near-next
-bounds-near-next c = omega (arith, c.requires.0.bound.ends c.pass_seen-visit.result.station.0 (fits_passed (goal.at.bounds-near-next c).After-pass_seen-visit).station, c.if-next-begins.true)
-
-pub offset_bounds-waiting-depth : goal.offset_bounds-waiting-depth
-offset_bounds-waiting-depth c = omega (arith, c.loop-neighbour.invariant.1)
+pub at-requires : goal.at-requires
+at-requires c =
+    let r = c.pass_seen-visit.result in
+    let f = fits_passed (goal.at.at-requires c).After-pass_seen-visit in
+    omega (arith, f.station, c.requires.0)
 
 pub bounds-waiting-depth : goal.bounds-waiting-depth
-bounds-waiting-depth c = omega (arith, fewer (goal.at.bounds-waiting-depth c).After-pass_seen-visit c.if-next-begins.true, c.loop-neighbour.invariant.1)
+bounds-waiting-depth c = omega (arith, fewer (goal.at.bounds-waiting-depth c).After-pass_seen-visit c.in-Some.ensures.neighbour.0, c.loop-neighbour.invariant.1)
 
-pub overflow_add-depth : goal.overflow_add-depth
-overflow_add-depth c = omega (arith, c.loop-neighbour.invariant.1)
+pub begin_visit-visit-requires-in-Some : goal.begin_visit-visit-requires-in-Some
+begin_visit-visit-requires-in-Some c = (rw c.in-Some.ensures.neighbour.1 (neighbour_in (goal.at.begin_visit-visit-requires-in-Some c).After-pass_seen-visit c.in-Some.ensures.neighbour.0), omega (arith, (fits (goal.at.begin_visit-visit-requires-in-Some c).After-pass_seen-visit).size, c.requires.0))
 
-pub overflow_cast-depth : goal.overflow_cast-depth
-overflow_cast-depth c = omega (arith, c.loop-neighbour.invariant.1)
-
-pub begin_visit-visit-requires-then-next-begins : goal.begin_visit-visit-requires-then-next-begins
-begin_visit-visit-requires-then-next-begins c = (neighbour_in (goal.at.begin_visit-visit-requires-then-next-begins c).After-pass_seen-visit c.if-next-begins.true, omega (arith, (fits (goal.at.begin_visit-visit-requires-then-next-begins c).After-pass_seen-visit).size, c.requires.0.bound.rooms))
-
-pub loop-neighbour-smaller-then-next-begins : goal.loop-neighbour-smaller-then-next-begins
-loop-neighbour-smaller-then-next-begins c =
-    let b = c.begin_visit-visit-then-next-begins in
-    let less : unseen b.new.depths + 1 ≡ unseen c.loop-neighbour.depths = rw b.ensures.depths (fewer (goal.at.loop-neighbour-smaller-then-next-begins c).After-pass_seen-visit c.if-next-begins.true) in
+pub loop-neighbour-smaller-in-Some : goal.loop-neighbour-smaller-in-Some
+loop-neighbour-smaller-in-Some c =
+    let b = c.begin_visit-visit-in-Some in
+    let less : unseen b.new.depths + 1 ≡ unseen c.loop-neighbour.depths = rw (b.ensures.depths, c.in-Some.ensures.neighbour.1) (fewer (goal.at.loop-neighbour-smaller-in-Some c).After-pass_seen-visit c.in-Some.ensures.neighbour.0) in
     omega arith
 
-pub loop-neighbour-preserved-then-next-begins : goal.loop-neighbour-preserved-then-next-begins
-loop-neighbour-preserved-then-next-begins c =
+pub loop-neighbour-preserved-in-Some : goal.loop-neighbour-preserved-in-Some
+loop-neighbour-preserved-in-Some c =
     let l = c.loop-neighbour in
-    let there = (goal.at.loop-neighbour-preserved-then-next-begins c).After-pass_seen-visit in
-    let more = c.if-next-begins.true in
-    let b = c.begin_visit-visit-then-next-begins in
-    let less : unseen b.new.depths + 1 ≡ unseen l.depths = rw b.ensures.depths (fewer there more) in (
+    let there = (goal.at.loop-neighbour-preserved-in-Some c).After-pass_seen-visit in
+    let more = c.in-Some.ensures.neighbour.0 in
+    let b = c.begin_visit-visit-in-Some in
+    let less : unseen b.new.depths + 1 ≡ unseen l.depths = rw (b.ensures.depths, c.in-Some.ensures.neighbour.1) (fewer there more) in (
       simp length-set l.invariant.0,
       omega (arith, less, l.invariant.1),
       λ s a e q.
           let o = passes there (l.invariant.2 s a e q) in
-          rw b.ensures.depths (open_entered o (omega (arith, less, l.invariant.0, l.invariant.1)) c.if-next-begins.true (neighbour_in there more) (neighbour_fresh there more) b.ensures.visit),
+          rw (b.ensures.depths, c.in-Some.ensures.neighbour.1) (open_entered o (omega (arith, less, l.invariant.0, l.invariant.1)) c.in-Some.ensures.neighbour.0 (neighbour_in there more) (neighbour_fresh there more) (rw c.in-Some.ensures.neighbour.1 at b.ensures.visit)),
     )
 
-pub bounds-cut-u : goal.bounds-cut-u
-bounds-cut-u c = cut_in (goal.at.bounds-cut-u c).After-pass_seen-visit
+pub bounds-cut-visit : goal.bounds-cut-visit
+bounds-cut-visit c = cut_in (goal.at.bounds-cut-visit c).After-pass_seen-visit
 
-pub shape_of-depths-then-depth-eq1 : goal.shape_of-depths-then-depth-eq1
-shape_of-depths-then-depth-eq1 c = (fits (goal.at.shape_of-depths-then-depth-eq1 c).After-pass_seen-visit).size
-
-pub shape_of-cut-then-depth-eq1 : goal.shape_of-cut-then-depth-eq1
-shape_of-cut-then-depth-eq1 c = let r = c.pass_seen-visit.result in length-set c.loop-neighbour.cut r.station.0 r.cut ∙ (fits (goal.at.shape_of-cut-then-depth-eq1 c).After-pass_seen-visit).marked
-
-pub returns-then-depth-eq1 : goal.returns-then-depth-eq1
-returns-then-depth-eq1 c =
+pub returns-then-depth-eq-OUTERMOST : goal.returns-then-depth-eq-OUTERMOST
+returns-then-depth-eq-OUTERMOST c =
     let a = c.args in
-    let there = (goal.at.returns-then-depth-eq1 c).After-pass_seen-visit in
-    let vis = open_ended (passes there (opens there)) c.if-depth-eq1.true c.if-next-begins.false (cut_in there) in
-    record { says = λ away lines un r. visit_says (length a.depths.now) a.begins.now a.near.now away a.depths.now c.loop-neighbour.depths a.cut.now _ a.first.0 _ refl un r vis lines }
+    let there = (goal.at.returns-then-depth-eq-OUTERMOST c).After-pass_seen-visit in
+    let vis = open_ended (passes there (opens there)) c.if-depth-eq-OUTERMOST.true c.in_default.ensures.neighbour (cut_in there) in
+    record { says = λ away lines un r. visit_says (length a.depths.now) a.neighbours.now.begins.now a.neighbours.now.near.now away a.depths.now c.loop-neighbour.depths a.cut.now _ a.first.0 _ refl un r vis lines }
 
 pub overflow_sub-depth : goal.overflow_sub-depth
 overflow_sub-depth c = (fits (goal.at.overflow_sub-depth c).After-pass_seen-visit).some
 
-pub offset_bounds-waiting-depth-in-loop-neighbour : goal.offset_bounds-waiting-depth-in-loop-neighbour
-offset_bounds-waiting-depth-in-loop-neighbour c = omega (arith, c.loop-neighbour.invariant.1)
-
-pub bounds-waiting-depth-in-loop-neighbour : goal.bounds-waiting-depth-in-loop-neighbour
-bounds-waiting-depth-in-loop-neighbour c = omega (arith, c.loop-neighbour.invariant.1)
-
-pub overflow_cast-depth-in-loop-neighbour : goal.overflow_cast-depth-in-loop-neighbour
-overflow_cast-depth-in-loop-neighbour c = omega (arith, c.loop-neighbour.invariant.1)
-
 pub with_child-visit-requires : goal.with_child-visit-requires
 with_child-visit-requires c =
-    let bound = c.requires.0.bound in
-    omega (arith, open_next (opens (goal.at.with_child-visit-requires c).After-pass_seen-visit) c.if-depth-eq1.false bound, bound.few)
-
-pub loop-neighbour-smaller : goal.loop-neighbour-smaller
-loop-neighbour-smaller c = omega (arith, (fits (goal.at.loop-neighbour-smaller c).After-pass_seen-visit).some)
+    let a = c.args in
+    let bound = subst (λ (n : ℕ). Bound n a.neighbours.now.begins.now a.neighbours.now.near.now) (sym c.requires.0) a.neighbours.now.bound in
+    omega (arith, open_next (opens (goal.at.with_child-visit-requires c).After-pass_seen-visit) c.if-depth-eq-OUTERMOST.false bound, bound.few)
 
 pub loop-neighbour-preserved : goal.loop-neighbour-preserved
 loop-neighbour-preserved c =
     let l = c.loop-neighbour in (
       l.invariant.0,
       omega (arith, l.invariant.1),
-      λ s a e q. open_left (passes (goal.at.loop-neighbour-preserved c).After-pass_seen-visit (l.invariant.2 s a e q)) c.if-depth-eq1.false (omega (arith, l.invariant.1)) c.if-next-begins.false (cut_in (goal.at.loop-neighbour-preserved c).After-pass_seen-visit) c.with_child-visit.ensures.visit,
+      λ s a e q. open_left (passes (goal.at.loop-neighbour-preserved c).After-pass_seen-visit (l.invariant.2 s a e q)) c.if-depth-eq-OUTERMOST.false (omega (arith, l.invariant.1)) c.in_default.ensures.neighbour (cut_in (goal.at.loop-neighbour-preserved c).After-pass_seen-visit) c.with_child-visit.ensures.visit,
     )

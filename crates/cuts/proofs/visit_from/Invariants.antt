@@ -10,7 +10,7 @@ use Rattle.cuts.proofs.visit_from.Given as goal
 
 abbrev pub invariant-loop-neighbour : goal.invariant-loop-neighbour
 invariant-loop-neighbour l = (length l.waiting ≡ 1024) × (l.depth + unseen l.depths ≤ 1024)
-    × ((s : List ℕ) (a : ℕ) → l.initial.depths ≡ set s a 1 → l.initial.visit.station.0 ≡ a → Open l.begins l.near s l.initial.cut a l.waiting l.depths l.cut l.depth l.visit)
+    × ((s : List ℕ) (a : ℕ) → l.initial.depths ≡ set s a 1 → l.initial.visit.station.0 ≡ a → Open l.neighbours.begins.now l.neighbours.near.now s l.initial.cut a l.waiting l.depths l.cut l.depth l.visit)
 
 abbrev pub decreases-loop-neighbour : goal.decreases-loop-neighbour
 decreases-loop-neighbour l = 2 * unseen l.depths + l.depth

@@ -6,4 +6,4 @@ pub returns : goal.returns
 returns c =
     let a = c.args in
     let p = c.requires in
-    record { piece = λ away g. same_piece a.n a.lines.now away a.gone.now p.0.simple.proper p.1 g c.find_pieces.new.pieces c.find_pieces.ensures.pieces a.one.0 a.two.0 }
+    record { piece = λ away g. same_piece a.network.now.n a.network.now.lines.now away a.gone.now c.args.network.now.sound.simple.proper p.0 g c.find_pieces.new.pieces c.find_pieces.ensures.pieces a.one.0 a.two.0 }

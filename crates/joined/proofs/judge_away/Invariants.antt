@@ -2,6 +2,7 @@
 -- most n.
 use Prim.Native.Nat.{ℕ, ◌-◌, ◌<◌, ◌≤◌}
 use mathlib.Core.Bool.{false}
+use lib.ListN.{length}
 use mathlib.Core.Path.{◌≡◌}
 use Rattle.laws.specs.Fold.{first_from}
 use Rattle.kinds.specs.Answers.{taken, is_refused}
@@ -9,4 +10,4 @@ use Rattle.joined.specs.Asking.{away_judged, all_away_judged}
 use Rattle.joined.proofs.judge_away.Given as goal
 
 abbrev pub invariant-loop-j : goal.invariant-loop-j
-invariant-loop-j l = (l.j ≤ l.count) × (all_away_judged l.n l.away ≡ first_from is_refused (away_judged l.n l.away) taken l.j (l.count - l.j)) × ((i : ℕ) → i < l.j → is_refused (away_judged l.n l.away i) ≡ false)
+invariant-loop-j l = (l.j ≤ length l.away) × (all_away_judged l.n l.away ≡ first_from is_refused (away_judged l.n l.away) taken l.j (length l.away - l.j)) × ((i : ℕ) → i < l.j → is_refused (away_judged l.n l.away i) ≡ false)

@@ -5,4 +5,4 @@ use Rattle.neighbours.specs.Ranks.{Summed, below}
 use Rattle.neighbours.proofs.sum_counts.Given as goal
 
 abbrev pub invariant-loop-v : goal.invariant-loop-v
-invariant-loop-v l = Summed l.n l.lines l.v l.begins × (l.sum ≡ below l.lines l.v) × (l.v ≤ l.n)
+invariant-loop-v l = Summed l.network.n l.network.lines.now l.v l.begins × (l.sum ≡ below l.network.lines.now l.v) × (l.v ≤ l.network.n)

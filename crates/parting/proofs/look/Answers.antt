@@ -1,23 +1,29 @@
 -- `parting::look` meets its contract. The marks say which stations of the list are taken away, so the pieces found by them are the
 -- definition's. Assumes nothing.
-use Rattle.parting.proofs.Looking.{looked_none, looked_whole, looked_apart}
+use Rattle.std.specs.Prelude.{None}
+use mathlib.Core.Path.{◌≡◌}
+use borrow.Author.Rules.{rules}
 use native.Mathlib.Omega.{arith}
+use Rattle.parting.specs.Answers.{spot_stations}
+use Rattle.parting.proofs.Looking.{looked_none, looked_whole, looked_apart}
 use Rattle.parting.proofs.look.Goals as goal
 
-pub returns-then-n-one : goal.returns-then-n-one
-returns-then-n-one c =
+pub returns-in_err-one : goal.returns-in_err-one
+returns-in_err-one c =
     let a = c.args in
     let p = c.requires in
-    record { parted = λ spot g. looked_none a.n a.lines.now spot a.gone.now p.0.simple.proper p.1 g (omega (arith, c.if-n-one.true, c.lowest_remaining-one.ensures.lowest)) }
+    let e : c.from_residual.result ≡ None = search rules in
+    record { found = rw e (looked_none a.network.now.n a.network.now.lines.now (spot_stations a.spot) a.gone.now a.network.now.sound.simple.proper p.0 p.2 (omega (arith, c.in_err-one.ensures.lowest))) }
 
-pub returns-then-n-two : goal.returns-then-n-two
-returns-then-n-two c =
+pub returns-in_err-two : goal.returns-in_err-two
+returns-in_err-two c =
     let a = c.args in
     let p = c.requires in
-    record { parted = λ spot g. looked_whole a.n a.lines.now spot a.gone.now p.0.simple.proper p.1 g c.find_pieces.new.pieces c.find_pieces.ensures.pieces _ _ c.lowest_remaining-one.ensures.lowest c.lowest_apart-two.ensures.lowest c.if-n-two.true }
+    let e : c.from_residual-in_err-two.result ≡ None = search rules in
+    record { found = rw e (looked_whole a.network.now.n a.network.now.lines.now (spot_stations a.spot) a.gone.now a.network.now.sound.simple.proper p.0 p.2 c.find_pieces.new.pieces c.find_pieces.ensures.pieces _ _ c.in_ok-one.ensures.lowest c.in_err-two.ensures.lowest (omega arith)) }
 
 pub returns : goal.returns
 returns c =
     let a = c.args in
     let p = c.requires in
-    record { parted = λ spot g. looked_apart a.n a.lines.now spot a.gone.now p.0.simple.proper p.1 g c.find_pieces.new.pieces c.find_pieces.ensures.pieces _ _ c.lowest_remaining-one.ensures.lowest c.lowest_apart-two.ensures.lowest c.if-n-two.false }
+    record { found = looked_apart a.network.now.n a.network.now.lines.now (spot_stations a.spot) a.gone.now a.network.now.sound.simple.proper p.0 p.2 c.find_pieces.new.pieces c.find_pieces.ensures.pieces _ _ c.in_ok-one.ensures.lowest c.in_ok-two.ensures.lowest c.in_ok-two.ensures.station }

@@ -5,12 +5,9 @@ use Rattle.pieces.specs.Pieces.{pieces_of}
 use Rattle.pieces.proofs.Tables.{set_leads}
 use Rattle.pieces.proofs.find_pieces.Goals as goal
 
-pub set_alone-requires : goal.set_alone-requires
-set_alone-requires c = omega (arith, c.requires.0.within.most)
-
 pub join_lines-requires : goal.join_lines-requires
 join_lines-requires c =
-    let s = c.requires.0 in
+    let s = c.args.network.now.sound in
     let started = set_leads _ _ c.set_alone.ensures.alone in (
       record {
         one_in = λ p h. omega (arith, s.simple.proper.one_in p h);
@@ -25,12 +22,12 @@ join_lines-requires c =
 pub set_names-requires : goal.set_names-requires
 set_names-requires c =
     let started = set_leads _ _ c.set_alone.ensures.alone in
-    (omega (arith, c.requires.0.within.most), record { names = _; leads = c.join_lines.ensures.joined _ started })
+    (omega (arith, c.args.network.now.sound.within.most), record { names = _; leads = c.join_lines.ensures.joined _ started })
 
 pub returns : goal.returns
 unfolding pieces_of
 returns c =
     record {
       pieces = (let started = set_leads _ _ c.set_alone.ensures.alone in
-          rw c.requires.2 at (c.set_names.ensures.names _ (c.join_lines.ensures.joined _ started)));
+          rw c.requires.1 at (c.set_names.ensures.names _ (c.join_lines.ensures.joined _ started)));
     }

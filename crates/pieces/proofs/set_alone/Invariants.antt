@@ -1,5 +1,4 @@
 -- The loop's invariant in `pieces::set_alone`: the first v entries are their own.
-use Prim.Native.Nat.{◌≤◌}
 use mathlib.Core.List.{◌++◌}
 use mathlib.Core.Path.{◌≡◌}
 use lib.ListN.{length, drop}
@@ -7,4 +6,4 @@ use Rattle.pieces.specs.Pieces.{alone}
 use Rattle.pieces.proofs.set_alone.Given as goal
 
 abbrev pub invariant-loop-v : goal.invariant-loop-v
-invariant-loop-v l = (l.v ≤ l.count) × (length l.pieces ≡ length l.initial.pieces) × (l.pieces ≡ alone l.v ++ drop l.v l.initial.pieces)
+invariant-loop-v l = (length l.pieces ≡ length l.initial.pieces) × (l.pieces ≡ alone l.v ++ drop l.v l.initial.pieces)

@@ -6,7 +6,7 @@ use native.Mathlib.Omega.{arith}
 use borrow.Author.Tests.{le-ltb}
 use lib.Dec.{ltb}
 use lib.ListN.{length}
-use Rattle.kinds.specs.Answers.{taken, is_refused, judged_answer, refusal_answer}
+use Rattle.kinds.specs.Answers.{taken, is_refused, answer_of, refusal_answer}
 use Rattle.prune.specs.Pruning.{prune_answer}
 use Rattle.request.specs.Judging.{request_judged}
 use Rattle.request.proofs.Judging.{request_good}
@@ -16,19 +16,19 @@ use Rattle.programs.proofs.Room.{room_for_all}
 use Rattle.programs.proofs.keep_network.Goals as goal
 use Rattle.programs.proofs.keep_network.Goals.{In_default}
 
-pub returns-in-Refused : goal.returns-in-Refused
+pub returns-in-Err : goal.returns-in-Err
 unfolding network_text pruned_text prune_answer refused_short
-returns-in-Refused c =
+returns-in-Err c =
     let a = c.args in
     let w = c.write_refused in
-    let j : request_judged a.n a.level.0 a.lines.now a.starts.now false ≡ refusal_answer c.in-Refused.refusal = sym c.judge_request-judged.ensures.answer ∙ ap judged_answer c.in-Refused.is in
+    let j : request_judged a.n a.level.0 a.lines.now a.starts.now false ≡ refusal_answer c.in-Err.refusal = sym c.judge_request.ensures.answer ∙ ap answer_of c.in-Err.is in
     let e = room_for_all a.n a.level.0 a.lines.now a.starts.now ∙ j in
     let room : ltb (length a.text.now) 64 ≡ false = le-ltb (length a.text.now) 64 (omega (arith, c.requires.2)) in
     record { answer = rw e (rw room at w.ensures.answer); text = rw e (rw room at w.ensures.text) }
 
 -- what is known once the judge has taken the request
 in_order : (c : In_default) → request_judged c.args.n c.args.level.0 c.args.lines.now c.args.starts.now false ≡ taken
-in_order c = sym c.judge_request-judged.ensures.answer ∙ ap judged_answer c.in_default.is
+in_order c = sym c.judge_request.ensures.answer ∙ ap answer_of c.in_default.is
 
 pub prune_ranks-kept-requires : goal.prune_ranks-kept-requires
 prune_ranks-kept-requires c =

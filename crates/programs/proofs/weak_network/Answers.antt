@@ -13,20 +13,20 @@ use Rattle.kinds.specs.Answers.{Answer.given, refusal_answer}
 use Rattle.programs.specs.Weak.{searched_text}
 use Rattle.programs.proofs.weak_network.Goals as goal
 
-pub returns-in-Decided : goal.returns-in-Decided
+pub returns-in-Ok : goal.returns-in-Ok
 unfolding searched_text weak_short
-returns-in-Decided c =
+returns-in-Ok c =
     let a = c.args in
     let w = c.write_standing in
-    let e : weak_answer a.n a.level.0 a.lines.now ≡ given (found_standing c.in-Decided.found) = sym c.find_weak_spot-searched.ensures.answer ∙ rw c.in-Decided.is in
+    let e : weak_answer a.n a.level.0 a.lines.now ≡ given (found_standing c.in-Ok.found) = sym c.find_weak_spot.ensures.answer ∙ rw c.in-Ok.is in
     let room : ltb (length a.text.now) 256 ≡ false = le-ltb (length a.text.now) 256 c.requires in
     record { answer = rw e (rw room at w.ensures.answer); text = rw e (rw room at w.ensures.text) }
 
-pub returns-in-Refused : goal.returns-in-Refused
+pub returns-in-Err : goal.returns-in-Err
 unfolding searched_text refused_short
-returns-in-Refused c =
+returns-in-Err c =
     let a = c.args in
     let w = c.write_refused in
-    let e : weak_answer a.n a.level.0 a.lines.now ≡ refusal_answer c.in-Refused.refusal = sym c.find_weak_spot-searched.ensures.answer ∙ rw c.in-Refused.is in
+    let e : weak_answer a.n a.level.0 a.lines.now ≡ refusal_answer c.in-Err.refusal = sym c.find_weak_spot.ensures.answer ∙ rw c.in-Err.is in
     let room : ltb (length a.text.now) 64 ≡ false = le-ltb (length a.text.now) 64 (omega (arith, c.requires)) in
     record { answer = rw e (rw room at w.ensures.answer); text = rw e (rw room at w.ensures.text) }

@@ -2,85 +2,67 @@
 -- each buffer is lent to the rounds. Assumes nothing.
 -- what is known once the request was not refused
 use Prim.Native.Nat.{◌*◌, ◌/◌}
-use mathlib.Core.Path.{◌≡◌, refl, sym, ap, ◌∙◌}
+use mathlib.Core.Path.{◌≡◌, sym, ap, ◌∙◌}
 use native.Mathlib.Omega.{arith}
 use native.Mathlib.Nat.{mul-le-mul}
-use lib.Seq.{length_front, length-take-le}
+use lib.Seq.{length-take-le}
 use lib.ListN.{length}
-use Rattle.kinds.specs.Answers.{Answer.given, taken, refusal_answer}
+use Rattle.kinds.specs.Answers.{Answer.given, taken}
 use Rattle.limits.specs.Limits.{plan_short}
 use Rattle.request.specs.Judging.{request_judged}
 use Rattle.request.specs.Requests.{Request}
 use Rattle.request.proofs.Judging.{request_good}
-use Rattle.kept.specs.Kept.{after}
 use Rattle.prune.specs.Pruning.{prune_answer}
 use Rattle.rule.specs.Rounds.{Rounds}
 use Rattle.kept.proofs.After.{written}
 use Rattle.limits.proofs.Room.{room_enough}
-use Rattle.ranks.proofs.Asked.{request_laid, request_in_order}
+use Rattle.ranks.proofs.Asked.{request_scannable, request_in_order}
 use Rattle.prune.proofs.prune.Goals as goal
-use Rattle.prune.proofs.prune.Goals.{In_default}
+use Rattle.prune.proofs.prune.Goals.{In_ok-judge_request}
 
-in_order : (c : In_default)
+in_order : (c : In_ok-judge_request)
     → (request_judged c.args.n c.args.level.0 c.args.lines.now c.args.starts.now
     (plan_short c.args.n c.args.level.0 c.args.lines.now (length c.args.ranks.now) (length c.args.orders.now)) ≡ taken)
     × Request c.args.n c.args.level.0 c.args.lines.now c.args.starts.now
     (plan_short c.args.n c.args.level.0 c.args.lines.now (length c.args.ranks.now) (length c.args.orders.now))
 in_order c =
     let a = c.args in
-    let j = c.judge_request-judged in
-    let short = c.is_plan_short-short.ensures.short in
-    let e : request_judged a.n a.level.0 a.lines.now a.starts.now (plan_short a.n a.level.0 a.lines.now (length a.ranks.now) (length a.orders.now)) ≡ taken = rw (← short) (sym j.ensures.answer ∙ rw c.in_default.is) in
-    (e, request_good a.n a.level.0 a.lines.now a.starts.now (plan_short a.n a.level.0 a.lines.now (length a.ranks.now) (length a.orders.now)) (rw e))
-
-pub returns-in-Refused : goal.returns-in-Refused
-unfolding prune_answer after
-returns-in-Refused c =
-    let a = c.args in
-    let j = c.judge_request-judged in
-    let e : request_judged a.n a.level.0 a.lines.now a.starts.now (plan_short a.n a.level.0 a.lines.now (length a.ranks.now) (length a.orders.now)) ≡ refusal_answer c.in-Refused.refusal = rw (← c.is_plan_short-short.ensures.short) (sym j.ensures.answer ∙ rw c.in-Refused.is) in
-    record { allowed = record { answer = rw e; new_ranks = refl; new_orders = refl } }
+    let short = plan_short a.n a.level.0 a.lines.now (length a.ranks.now) (length a.orders.now) in
+    let e : request_judged a.n a.level.0 a.lines.now a.starts.now short ≡ taken = rw (← c.is_plan_short-short.ensures.short) (sym c.in_ok-judge_request.ensures.answer) in
+    (e, request_good a.n a.level.0 a.lines.now a.starts.now short (rw e))
 
 pub overflow_mul-size : goal.overflow_mul-size
-overflow_mul-size c = let r = (in_order (goal.at.overflow_mul-size c).In_default).1 in omega (arith, mul-le-mul {n₁ = c.args.level.0} {m₁ = c.args.n} {n₂ = 16} {m₂ = 1024} r.sized.most r.sized.within.most)
+overflow_mul-size c = let r = (in_order (goal.at.overflow_mul-size c).In_ok-judge_request).1 in omega (arith, mul-le-mul {n₁ = c.args.level.0} {m₁ = c.args.n} {n₂ = 16} {m₂ = 1024} r.sized.most r.sized.within.most)
 
 pub slice_bounds-run-end : goal.slice_bounds-run-end
-slice_bounds-run-end c = let r = (in_order (goal.at.slice_bounds-run-end c).In_default).1 in (room_enough _ _ _ _ _ r.sized.room).0
+slice_bounds-run-end c = let r = (in_order (goal.at.slice_bounds-run-end c).In_ok-judge_request).1 in (room_enough _ _ _ _ _ r.sized.room).0
 
 pub slice_bounds-run-end-2 : goal.slice_bounds-run-end-2
-slice_bounds-run-end-2 c = let a = c.args in let r = (in_order (goal.at.slice_bounds-run-end-2 c).In_default).1 in sym (length-take-le (length a.lines.now / 2) a.ranks.now (room_enough _ _ _ _ _ r.sized.room).0)
+slice_bounds-run-end-2 c = let a = c.args in let r = (in_order (goal.at.slice_bounds-run-end-2 c).In_ok-judge_request).1 in sym (length-take-le (length a.lines.now / 2) a.ranks.now (room_enough _ _ _ _ _ r.sized.room).0)
 
 pub slice_bounds-run-end-3 : goal.slice_bounds-run-end-3
-slice_bounds-run-end-3 c = let r = (in_order (goal.at.slice_bounds-run-end-3 c).In_default).1 in (room_enough _ _ _ _ _ r.sized.room).1
+slice_bounds-run-end-3 c = let r = (in_order (goal.at.slice_bounds-run-end-3 c).In_ok-judge_request).1 in (room_enough _ _ _ _ _ r.sized.room).1
 
 pub slice_bounds-run-end-4 : goal.slice_bounds-run-end-4
-slice_bounds-run-end-4 c = let a = c.args in let r = (in_order (goal.at.slice_bounds-run-end-4 c).In_default).1 in sym (length-take-le (a.level.0 * a.n) a.orders.now (room_enough _ _ _ _ _ r.sized.room).1)
+slice_bounds-run-end-4 c = let a = c.args in let r = (in_order (goal.at.slice_bounds-run-end-4 c).In_ok-judge_request).1 in sym (length-take-le (a.level.0 * a.n) a.orders.now (room_enough _ _ _ _ _ r.sized.room).1)
 
 pub run-kept-requires : goal.run-kept-requires
 run-kept-requires c =
     let a = c.args in
-    let r = (in_order (goal.at.run-kept-requires c).In_default).1 in
+    let r = (in_order (goal.at.run-kept-requires c).In_ok-judge_request).1 in
     let w = r.sized.within in
     let (lr, lo) = room_enough a.n a.level.0 a.lines.now (length a.ranks.now) (length a.orders.now) r.sized.room in (
-      request_laid r (length-take-le (length a.lines.now / 2) a.ranks.now lr),
-      w.some,
-      w.most,
+      request_scannable r (length-take-le (length a.lines.now / 2) a.ranks.now lr),
       request_in_order r,
       length-take-le (a.level.0 * a.n) a.orders.now lo,
     )
-
-pub shape_of-ranks : goal.shape_of-ranks
-shape_of-ranks c = let a = c.args in length_front a.ranks.now c.run-kept.new.ranks (length a.lines.now / 2) c.run-kept.auto.ranks
-
-pub shape_of-orders : goal.shape_of-orders
-shape_of-orders c = let a = c.args in length_front a.orders.now c.run-kept.new.orders (a.level.0 * a.n) c.run-kept.auto.orders
 
 pub returns : goal.returns
 unfolding prune_answer
 returns c =
     let a = c.args in
     let d = c.run-kept in
-    let (e, r) = in_order (goal.at.returns c).In_default in
+    let (e, r) = in_order (goal.at.returns c).In_ok-judge_request in
     let (lr, lo) = room_enough a.n a.level.0 a.lines.now (length a.ranks.now) (length a.orders.now) r.sized.room in
     let size = length a.lines.now / 2 in
     let span = a.level.0 * a.n in

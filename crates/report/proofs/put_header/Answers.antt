@@ -7,33 +7,33 @@ use Rattle.report.proofs.Writing.{puts_length, puts_then}
 use Rattle.report.proofs.Text.{wide_most}
 use Rattle.report.proofs.put_header.Goals as goal
 
-pub put_stations-stations-requires : goal.put_stations-stations-requires
-put_stations-stations-requires c =
+pub put_field-stations-requires : goal.put_field-stations-requires
+put_field-stations-requires c =
     let a = c.args in
     omega (arith, c.requires, wide_most a.n (search rules))
 
-pub put_level-asked-requires : goal.put_level-asked-requires
-put_level-asked-requires c =
+pub put_field-asked-requires : goal.put_field-asked-requires
+put_field-asked-requires c =
     let a = c.args in
-    omega (arith, c.requires, wide_most a.n (search rules), wide_most a.level.0 (search rules), c.put_stations-stations.ensures.put.ends, puts_length c.put_stations-stations.ensures.put)
+    omega (arith, c.requires, wide_most a.n (search rules), wide_most a.level.0 (search rules), c.put_field-stations.ensures.put.ends, puts_length c.put_field-stations.ensures.put)
 
-pub put_count-lines-requires : goal.put_count-lines-requires
-put_count-lines-requires c =
+pub put_field-lines-requires : goal.put_field-lines-requires
+put_field-lines-requires c =
     let a = c.args in
-    omega (arith, c.requires, wide_most a.n (search rules), wide_most a.level.0 (search rules), wide_most a.count (search rules), c.put_stations-stations.ensures.put.ends, puts_length c.put_stations-stations.ensures.put, c.put_level-asked.ensures.put.ends, puts_length c.put_level-asked.ensures.put)
+    omega (arith, c.requires, wide_most a.n (search rules), wide_most a.level.0 (search rules), wide_most a.count (search rules), c.put_field-stations.ensures.put.ends, puts_length c.put_field-stations.ensures.put, c.put_field-asked.ensures.put.ends, puts_length c.put_field-asked.ensures.put)
 
-pub put_kept-last-requires : goal.put_kept-last-requires
-put_kept-last-requires c =
+pub put_field-last-requires : goal.put_field-last-requires
+put_field-last-requires c =
     let a = c.args in
-    omega (arith, c.requires, wide_most a.n (search rules), wide_most a.level.0 (search rules), wide_most a.count (search rules), wide_most a.kept (search rules), c.put_stations-stations.ensures.put.ends, puts_length c.put_stations-stations.ensures.put, c.put_level-asked.ensures.put.ends, puts_length c.put_level-asked.ensures.put, c.put_count-lines.ensures.put.ends, puts_length c.put_count-lines.ensures.put)
+    omega (arith, c.requires, wide_most a.n (search rules), wide_most a.level.0 (search rules), wide_most a.count (search rules), wide_most a.kept (search rules), c.put_field-stations.ensures.put.ends, puts_length c.put_field-stations.ensures.put, c.put_field-asked.ensures.put.ends, puts_length c.put_field-asked.ensures.put, c.put_field-lines.ensures.put.ends, puts_length c.put_field-lines.ensures.put)
 
 pub put_newline-requires : goal.put_newline-requires
 put_newline-requires c =
     let a = c.args in
-    omega (arith, c.requires, wide_most a.n (search rules), wide_most a.level.0 (search rules), wide_most a.count (search rules), wide_most a.kept (search rules), c.put_stations-stations.ensures.put.ends, puts_length c.put_stations-stations.ensures.put, c.put_level-asked.ensures.put.ends, puts_length c.put_level-asked.ensures.put, c.put_count-lines.ensures.put.ends, puts_length c.put_count-lines.ensures.put, c.put_kept-last.ensures.put.ends, puts_length c.put_kept-last.ensures.put)
+    omega (arith, c.requires, wide_most a.n (search rules), wide_most a.level.0 (search rules), wide_most a.count (search rules), wide_most a.kept (search rules), c.put_field-stations.ensures.put.ends, puts_length c.put_field-stations.ensures.put, c.put_field-asked.ensures.put.ends, puts_length c.put_field-asked.ensures.put, c.put_field-lines.ensures.put.ends, puts_length c.put_field-lines.ensures.put, c.put_field-last.ensures.put.ends, puts_length c.put_field-last.ensures.put)
 
 pub returns : goal.returns
 unfolding header_text
 returns c =
     let a = c.args in
-    record { put = puts_then (puts_then (puts_then (puts_then c.put_stations-stations.ensures.put c.put_level-asked.ensures.put) c.put_count-lines.ensures.put) c.put_kept-last.ensures.put) c.put_newline.ensures.put; most = omega (arith, wide_most a.n (search rules), wide_most a.level.0 (search rules), wide_most a.count (search rules), wide_most a.kept (search rules), c.put_stations-stations.ensures.put.ends, c.put_level-asked.ensures.put.ends, c.put_count-lines.ensures.put.ends, c.put_kept-last.ensures.put.ends, c.put_newline.ensures.put.ends) }
+    record { put = puts_then (puts_then (puts_then (puts_then c.put_field-stations.ensures.put c.put_field-asked.ensures.put) c.put_field-lines.ensures.put) c.put_field-last.ensures.put) c.put_newline.ensures.put; most = omega (arith, wide_most a.n (search rules), wide_most a.level.0 (search rules), wide_most a.count (search rules), wide_most a.kept (search rules), c.put_field-stations.ensures.put.ends, c.put_field-asked.ensures.put.ends, c.put_field-lines.ensures.put.ends, c.put_field-last.ensures.put.ends, c.put_newline.ensures.put.ends) }

@@ -5,7 +5,7 @@ use lib.ListN.{length}
 use Rattle.report.proofs.Writing.{puts_length, puts_then, puts_front}
 use Rattle.report.specs.Text.{keep_text}
 use Rattle.report.proofs.Answers.{keep_room}
-use Rattle.report.specs.declared.Written.TheVariants.{Bytes}
+use Rattle.std.specs.Prelude.{Ok}
 use Rattle.report.proofs.write_kept.Goals as goal
 
 pub returns-then-is_short : goal.returns-then-is_short
@@ -31,4 +31,4 @@ unfolding keep_text
 returns c =
     let e = sym c.is_short.ensures.short ∙ c.if-is_short.false in
     let f = puts_front (puts_then c.put_header-at.ensures.put c.put_rows-end.ensures.put) in
-    record { answer = rw e (ap Bytes f.0); text = rw e f.1 }
+    record { answer = rw e (ap Ok f.0); text = rw e f.1 }

@@ -4,7 +4,7 @@ use mathlib.Core.Path.{ap}
 use borrow.Author.Tests.{lt-ltb, le-ltb}
 use Rattle.report.proofs.Writing.{puts_front}
 use Rattle.report.specs.Answers.{refused_short}
-use Rattle.report.specs.declared.Written.TheVariants.{Bytes}
+use Rattle.std.specs.Prelude.{Ok}
 use Rattle.report.proofs.write_refused.Goals as goal
 
 pub returns-then-text-lt64 : goal.returns-then-text-lt64
@@ -16,4 +16,4 @@ unfolding refused_short
 returns c =
     let e = le-ltb _ _ c.if-text-lt64.false in
     let f = rw (c.number_of-number.ensures.number, c.place_of-place.ensures.place) at (puts_front c.put_refusal-end.ensures.put) in
-    record { answer = rw e (ap Bytes f.0); text = rw e f.1 }
+    record { answer = rw e (ap Ok f.0); text = rw e f.1 }

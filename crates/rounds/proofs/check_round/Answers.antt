@@ -1,41 +1,39 @@
 -- `rounds::check_round` meets its contract. Where B finds no fault, the order has each station once, and every station is placed. Assumes
 -- nothing.
-use Rattle.plans.specs.Checking.{order_verdict, stations_verdict, lines_verdict, round_verdict}
-use Rattle.plans.specs.Verdicts.{◌or_else◌, is_faulty}
+use Rattle.plans.specs.Checking.{order_verdict, round_verdict}
+use Rattle.plans.specs.Verdicts.{is_faulty}
 use Rattle.plans.proofs.Verdicts.{or_faulty, or_next}
 use Rattle.plans.proofs.Rounds.{order_each_once}
 use Rattle.entries.proofs.Placing.{placed_none}
-use Rattle.entries.specs.Answers.{verdict_said}
+use Rattle.entries.specs.Answers.{fault_said}
 use mathlib.Core.Bool.{true, false}
-use mathlib.Core.Path.{◌≡◌, sym, ◌∙◌}
+use mathlib.Core.Path.{◌≡◌, refl, sym, ap, ◌∙◌}
+use borrow.Author.Rules.{rules}
 use native.Mathlib.Omega.{arith}
 use Rattle.rounds.proofs.check_round.Goals as goal
 
-pub empty_tables-requires : goal.empty_tables-requires
-empty_tables-requires c = let p = c.requires in (p.0.within.most, p.2.positions_room, p.2.earliest_room, p.2.parents_room, p.2.others_room)
+pub check_order-requires : goal.check_order-requires
+check_order-requires c = let p = c.requires in (c.args.network.now.sound.within.most, p.0, placed_none c.args.network.now.n c.args.order.now _ (omega (arith, p.1.positions_room)) c.empty_tables.ensures.unplaced)
 
-pub check_order-placed-requires : goal.check_order-placed-requires
-check_order-placed-requires c = let p = c.requires in (p.0.within.most, p.1, placed_none c.args.n c.args.order.now _ (omega (arith, p.2.positions_room)) c.empty_tables.ensures.unplaced)
-
-pub returns-then-is_faulty : goal.returns-then-is_faulty
+pub returns-in_err-check_order : goal.returns-in_err-check_order
 unfolding round_verdict
-returns-then-is_faulty c =
-    record {
-      verdict = (let f : is_faulty (verdict_said c.check_order-placed.result) ≡ true = sym c.is_faulty.ensures.answer ∙ c.if-is_faulty.true in
-          c.check_order-placed.ensures.verdict ∙ sym (or_faulty _ _ (rw (← c.check_order-placed.ensures.verdict) f)));
-    }
+returns-in_err-check_order c =
+    let a = c.args in
+    let e : fault_said c.from_residual.result ≡ order_verdict a.network.now.n a.round.0 a.order.now = search rules in
+    let f : is_faulty (order_verdict a.network.now.n a.round.0 a.order.now) ≡ true = sym (ap is_faulty c.in_err-check_order.ensures.verdict) in
+    record { verdict = e ∙ sym (or_faulty _ _ f) }
 
 pub check_placed-requires : goal.check_placed-requires
 check_placed-requires c =
     let a = c.args in
     let p = c.requires in
-    let f : is_faulty (verdict_said c.check_order-placed.result) ≡ false = sym c.is_faulty.ensures.answer ∙ c.if-is_faulty.false in
-    rw p.1 (p.0, order_each_once a.n a.round.0 a.order.now p.1 (rw (← c.check_order-placed.ensures.verdict) f), c.check_order-placed.ensures.placed f, c.empty_tables.ensures.blank, p.2.trees_room)
+    let f : is_faulty (order_verdict a.network.now.n a.round.0 a.order.now) ≡ false = sym (ap is_faulty c.in_ok-check_order.ensures.verdict) in
+    rw p.0 (refl, order_each_once a.network.now.n a.round.0 a.order.now p.0 f, c.in_ok-check_order.ensures.placed refl, c.empty_tables.ensures.blank, p.1.trees_room)
 
 pub returns : goal.returns
 unfolding round_verdict
 returns c =
     let a = c.args in
     let p = c.requires in
-    let f : is_faulty (verdict_said c.check_order-placed.result) ≡ false = sym c.is_faulty.ensures.answer ∙ c.if-is_faulty.false in
-    record { verdict = (rw p.1 at c.check_placed.ensures.verdict) ∙ sym (or_next (order_verdict a.n a.round.0 a.order.now) (stations_verdict a.n a.lines.now a.ranks.now a.round.0 a.order.now or_else lines_verdict a.n a.lines.now a.ranks.now a.round.0 a.order.now) (rw (← c.check_order-placed.ensures.verdict) f)) }
+    let f : is_faulty (order_verdict a.network.now.n a.round.0 a.order.now) ≡ false = sym (ap is_faulty c.in_ok-check_order.ensures.verdict) in
+    record { verdict = (rw p.0 at c.check_placed.ensures.verdict) ∙ sym (or_next _ _ f) }

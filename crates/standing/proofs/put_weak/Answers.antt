@@ -6,21 +6,21 @@ use Rattle.report.proofs.Text.{short_most}
 use Rattle.report.proofs.Writing.{puts_length, puts_then}
 use Rattle.standing.proofs.put_weak.Goals as goal
 
-pub put_parts-parted-requires : goal.put_parts-parted-requires
-put_parts-parted-requires c =
+pub put_field-parted-requires : goal.put_field-parted-requires
+put_field-parted-requires c =
     let a = c.args in
     omega (arith, c.requires, short_most a.weak.one.0 (search rules), short_most a.weak.two.0 (search rules), c.put_word-word.ensures.put.ends, puts_length c.put_word-word.ensures.put, c.put_spot-stations.ensures.most, puts_length c.put_spot-stations.ensures.put)
 
-pub put_from-left-requires : goal.put_from-left-requires
-put_from-left-requires c =
+pub put_field-left-requires : goal.put_field-left-requires
+put_field-left-requires c =
     let a = c.args in
-    omega (arith, c.requires, short_most a.weak.one.0 (search rules), short_most a.weak.two.0 (search rules), c.put_word-word.ensures.put.ends, puts_length c.put_word-word.ensures.put, c.put_spot-stations.ensures.most, puts_length c.put_spot-stations.ensures.put, c.put_parts-parted.ensures.put.ends, puts_length c.put_parts-parted.ensures.put)
+    omega (arith, c.requires, short_most a.weak.one.0 (search rules), short_most a.weak.two.0 (search rules), c.put_word-word.ensures.put.ends, puts_length c.put_word-word.ensures.put, c.put_spot-stations.ensures.most, puts_length c.put_spot-stations.ensures.put, c.put_field-parted.ensures.put.ends, puts_length c.put_field-parted.ensures.put)
 
 pub put_newline-requires : goal.put_newline-requires
 put_newline-requires c =
     let a = c.args in
-    omega (arith, c.requires, short_most a.weak.one.0 (search rules), short_most a.weak.two.0 (search rules), c.put_word-word.ensures.put.ends, puts_length c.put_word-word.ensures.put, c.put_spot-stations.ensures.most, puts_length c.put_spot-stations.ensures.put, c.put_parts-parted.ensures.put.ends, puts_length c.put_parts-parted.ensures.put, c.put_from-left.ensures.put.ends, puts_length c.put_from-left.ensures.put)
+    omega (arith, c.requires, short_most a.weak.one.0 (search rules), short_most a.weak.two.0 (search rules), c.put_word-word.ensures.put.ends, puts_length c.put_word-word.ensures.put, c.put_spot-stations.ensures.most, puts_length c.put_spot-stations.ensures.put, c.put_field-parted.ensures.put.ends, puts_length c.put_field-parted.ensures.put, c.put_field-left.ensures.put.ends, puts_length c.put_field-left.ensures.put)
 
 pub returns : goal.returns
 unfolding weak_row_text
-returns c = record { put = puts_then (puts_then (puts_then (puts_then c.put_word-word.ensures.put c.put_spot-stations.ensures.put) c.put_parts-parted.ensures.put) c.put_from-left.ensures.put) c.put_newline.ensures.put }
+returns c = record { put = puts_then (puts_then (puts_then (puts_then c.put_word-word.ensures.put c.put_spot-stations.ensures.put) c.put_field-parted.ensures.put) c.put_field-left.ensures.put) c.put_newline.ensures.put }

@@ -2,46 +2,33 @@
 -- Assumes nothing.
 use native.Mathlib.Omega.{arith}
 use Prim.Native.Nat.{ℕ, ◌≤◌, ◌<◌}
-use mathlib.Core.Path.{sym, ap, subst, ◌∙◌}
+use mathlib.Core.Path.{◌≡◌, ap, ◌∙◌}
 use mathlib.Core.List.{[], ◌∷◌}
 use lib.ListN.{length}
-use Rattle.neighbours.specs.Near.{Bound}
+use borrow.Author.Rules.{rules}
+use Rattle.std.specs.Prelude.{None}
 use Rattle.parting.specs.Standing.{Standing, without}
 use Rattle.tries.specs.Cutting.{first_cut}
 use Rattle.tries.proofs.Cutting.{ones_weak, ones_none, ones_first}
 use Rattle.tries.proofs.try_ones.Goals as goal
 
-pub find_cuts-requires : goal.find_cuts-requires
-find_cuts-requires c =
-    let a = c.args in (
-      record {
-        most = omega (arith, c.requires.0.within.most, c.requires.3);
-        bound = subst (λ (x : ℕ). Bound x a.begins.now a.near.now) (sym c.requires.3) c.requires.6;
-        marks = c.requires.7 ∙ sym c.requires.3;
-      },
-      c.requires.1 ∙ sym c.requires.3,
-    )
-
-pub returns-then-n-one : goal.returns-then-n-one
-returns-then-n-one c =
+pub returns-in_err-one-clause-found : goal.returns-in_err-one-clause-found
+returns-in_err-one-clause-found c =
     let a = c.args in
-    let pass = c.find_cuts in
-    let cut = pass.new.cut in
-    let says = ones_weak a.n a.lines.now a.begins.now a.near.now a.gone.now cut (length a.pieces.now) c.requires.3 c.requires.0 c.requires.1 c.requires.2 pass.ensures.cuts c.requires.5 c.requires.4 in
-    let none : a.n ≤ first_cut cut 0 = omega (arith, c.first_cut-one.ensures.first, c.if-n-one.true) in
-    record { found = ones_none (pass.auto.cut ∙ c.requires.7) says none; gone = c.requires.2 }
+    let p = c.requires in
+    let cut = c.find_cuts.new.cut in
+    let says = ones_weak a.network.now.n a.network.now.lines.now a.neighbours.now.begins.now a.neighbours.now.near.now a.gone.now cut (length a.pieces.now) p.2 a.network.now.sound p.0 p.1 c.find_cuts.ensures.cuts p.4 p.3 in
+    let none : a.network.now.n ≤ first_cut cut 0 = omega (arith, c.in_err-one.ensures.first, c.find_cuts.auto.cut, p.6) in
+    let e : c.from_residual.result ≡ None = search rules in
+    rw e (ones_none (c.find_cuts.auto.cut ∙ p.6) says none)
 
-pub try_one-requires : goal.try_one-requires
-try_one-requires c =
-    (c.requires.0, c.requires.1, c.requires.2, c.find_cuts.auto.depths ∙ c.requires.3, c.if-n-one.false)
-
-pub returns : goal.returns
-returns c =
+pub returns-clause-found : goal.returns-clause-found
+returns-clause-found c =
     let a = c.args in
-    let pass = c.find_cuts in
-    let cut = pass.new.cut in
-    let is = c.first_cut-one.ensures.first in
-    let says = ones_weak a.n a.lines.now a.begins.now a.near.now a.gone.now cut (length a.pieces.now) c.requires.3 c.requires.0 c.requires.1 c.requires.2 pass.ensures.cuts c.requires.5 c.requires.4 in
-    let some : first_cut cut 0 < a.n = omega (arith, is, c.if-n-one.false) in
-    let one : ℕ → Standing = λ x. without a.n a.lines.now (x ∷ []) in
-    record { found = c.try_one.ensures.found ∙ (ap one is ∙ ones_first (pass.auto.cut ∙ c.requires.7) says some); gone = c.try_one.ensures.gone }
+    let p = c.requires in
+    let cut = c.find_cuts.new.cut in
+    let is = c.in_ok-one.ensures.first in
+    let says = ones_weak a.network.now.n a.network.now.lines.now a.neighbours.now.begins.now a.neighbours.now.near.now a.gone.now cut (length a.pieces.now) p.2 a.network.now.sound p.0 p.1 c.find_cuts.ensures.cuts p.4 p.3 in
+    let some : first_cut cut 0 < a.network.now.n = omega (arith, is, c.in_ok-one.ensures.station, c.find_cuts.auto.cut, p.6) in
+    let one : ℕ → Standing = λ x. without a.network.now.n a.network.now.lines.now (x ∷ []) in
+    c.try_spot.ensures.found ∙ (ap one is ∙ ones_first (c.find_cuts.auto.cut ∙ p.6) says some)

@@ -9,4 +9,4 @@ use Rattle.tries.specs.Tries.{without_seconds, without_twos}
 use Rattle.tries.proofs.try_twos.Given as goal
 
 abbrev pub invariant-loop-v : goal.invariant-loop-v
-invariant-loop-v l = (l.v ≤ l.n) × (length l.gone ≡ l.n) × Unmarked l.gone × (length l.pieces ≡ l.n) × (length l.cut ≡ l.n) × (without_twos l.n l.lines ≡ first_from is_weak (without_seconds l.n l.lines) stands l.v (l.n - l.v))
+invariant-loop-v l = (l.v ≤ l.network.n) × (length l.gone ≡ l.network.n) × Unmarked l.gone × (length l.pieces ≡ l.network.n) × (length l.cut ≡ l.network.n) × (without_twos l.network.n l.network.lines.now ≡ first_from is_weak (without_seconds l.network.n l.network.lines.now) stands l.v (l.network.n - l.v))

@@ -7,4 +7,4 @@ use Rattle.writing.specs.Writing.{start_record}
 use Rattle.writing.proofs.write_starts.Given as goal
 
 abbrev pub invariant-loop-q : goal.invariant-loop-q
-invariant-loop-q l = (l.q ≤ l.s) × (length l.bytes ≡ length l.initial.bytes) × (l.bytes ≡ placed l.initial.bytes (6 + 6 * l.count) (gathered (start_record l.starts) l.q))
+invariant-loop-q l = (l.q ≤ length l.starts) × (length l.bytes ≡ length l.initial.bytes) × (l.bytes ≡ placed l.initial.bytes (6 + 6 * l.count) (gathered (start_record l.starts) l.q))

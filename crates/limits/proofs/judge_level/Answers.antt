@@ -1,7 +1,0 @@
--- `limits::judge_level` meets its contract. The definition is that of `judge_between` with its limits. Assumes nothing.
-use Rattle.limits.specs.Limits.{level_judged}
-use Rattle.limits.proofs.judge_level.Goals as goal
-
-pub returns : goal.returns
-unfolding level_judged
-returns c = record { answer = c.judge_between.ensures.answer }

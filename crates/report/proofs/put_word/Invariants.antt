@@ -1,8 +1,0 @@
--- The loop's invariant in `report::put_word`: the first i bytes of the word are written, and the position is i further.
-use Prim.Native.Nat.{◌+◌, ◌≤◌}
-use lib.ListN.{take}
-use Rattle.report.specs.Writing.{Puts}
-use Rattle.report.proofs.put_word.Given as goal
-
-abbrev pub invariant-loop-i : goal.invariant-loop-i
-invariant-loop-i l = (l.i ≤ l.count) × Puts l.initial.text l.at (take l.i l.word) l.text (l.at + l.i)
