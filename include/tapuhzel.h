@@ -11,7 +11,7 @@
  *
  * A call takes no memory but its stack. In bytes, for up to 64 stations and 256 lines, and for every network, as
  * measured (bench/stack.c; docs/SPEED.md has the table):
- *   judge 5,303 and 66,695    prune 5,719 and 67,111    check 13,703 and 75,095    copy 119    unite 6,455 and 67,847
+ *   judge 5,303 and 66,695    prune 5,719 and 67,111    check 13,703 and 75,095    copy 120    unite 6,455 and 67,847
  *   joined 8,503 and 69,895   weak 13,911 and 66,951    write 5,415 and 66,807     read 191
  *   keep_text 9,223 and 110,295                         weak_text 15,367 and 108,087
  */

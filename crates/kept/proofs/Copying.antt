@@ -22,7 +22,7 @@ use Rattle.kept.specs.Filled.{Filled}
 use Rattle.kept.specs.Kept.{is_kept, kept_count, put_line, chosen_lines, copy_line, kept_lines, kept_of, copy_answer}
 
 -- Two numbers for each chosen line.
-put_size : (chosen : ℕ → Bool) (lines : List ℕ) (p : ℕ) → length (up_to (put_line chosen lines) [] p) ≡ 2 * count p chosen
+pub put_size : (chosen : ℕ → Bool) (lines : List ℕ) (p : ℕ) → length (up_to (put_line chosen lines) [] p) ≡ 2 * count p chosen
 unfolding up_to
 put_size chosen lines zero = refl
 put_size chosen lines (suc p) = go (chosen p) (up_to (put_line chosen lines) [] p) (put_size chosen lines p)
@@ -84,7 +84,7 @@ copy_given {n} lines ranks room within ranked fits =
     rw ((within_taken 0 n lines within).1, le-ltb (length ranks) (length lines / 2) ranked, le-ltb room (2 * kept_of lines ranks) fits)
 
 -- A line's two ends, stored after what was put before.
-store_two : (front before : List ℕ) (at a b : ℕ) → length front ≡ at → at + 2 ≤ length before
+pub store_two : (front before : List ℕ) (at a b : ℕ) → length front ≡ at → at + 2 ≤ length before
     → set (set (front ++ drop at before) at a) (at + 1) b ≡ (front ++ (a ∷ (b ∷ []))) ++ drop (at + 2) before
 store_two front before at a b e h =
     let two : at + 1 + 1 ≡ at + 2 = omega arith in

@@ -1,4 +1,5 @@
 pub mod After
 pub mod Copying
 pub mod Determined
+pub mod Packing
 pub mod Rows

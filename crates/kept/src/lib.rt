@@ -43,16 +43,51 @@ pub fn put_lines<F: Fn(Place) -> bool>(lines: &[u16], chosen: F, room: &mut [u16
     }
 }
 
+// Puts the chosen lines of a list, in list order, into a room that they just fill. Each line is put where the next chosen one belongs, and
+// stays there only if it is chosen: so no branch hangs on which lines these are, but for where the last of them stands.
+fn pack_lines<F: Fn(Place) -> bool>(lines: &[u16], chosen: F, room: &mut [u16])
+    requires few { length lines.now ≤ 16384 }
+    requires asked { (place : Place) → place.0 < length lines.now / 2 → F.pre chosen place }
+    requires fits { (test : ℕ → Bool) × Chooses (F.post chosen) test (length lines.now / 2) × (2 * count (length lines.now / 2) test ≡ length room.old) }
+    ensures put { (test : ℕ → Bool) → Chooses (F.post chosen) test (length lines.now / 2) → 2 * count (length lines.now / 2) test ≡ length room.old → room.new ≡ chosen_lines test lines.now }
+{
+    let mut at = 0;
+    for place in line_places(lines) {
+        if room.len() <= at {
+            return;
+        }
+        let ends = line_at(lines, place);
+        room[at] = ends.one.0;
+        room[at + 1] = ends.two.0;
+        at += 2 * usize::from(chosen(place));
+    }
+}
+
+// The number of nonzero ranks of one list: so few are counted in 16 bits, of which the machine code adds eight at once.
+fn count_few(ranks: &[u8]) -> u16
+    requires { length ranks.now ≤ 8192 }
+    ensures count { result ≡ kept_count ranks.now }
+{
+    let mut kept = 0;
+    for rank in ranks {
+        if *rank != 0 {
+            kept += 1;
+        }
+    }
+    kept
+}
+
 // How many of a list's lines are kept; 0 where a rank is missing.
 #[tactic(auto, using(crate::proofs::Copying::kept_of_lem))]
 fn count_of(lines: &[u16], ranks: &[u8]) -> usize
+    requires { length lines.now ≤ 16384 }
     ensures count { length lines.now / 2 ≤ length ranks.now → result ≡ kept_of lines.now ranks.now }
 {
     let count = lines.len() / 2;
     if ranks.len() < count {
         return 0;
     }
-    count_kept(&ranks[..count])
+    count_few(&ranks[..count]) as usize
 }
 
 // Copies the kept lines of a list out, in list order. Any nonzero rank is kept.
@@ -68,6 +103,7 @@ pub fn copy_kept(lines: &[u16], ranks: &[u8], room: &mut [u16]) -> Result<usize,
     if room.len() / 2 < kept {
         return Err(Refusal::Room);
     }
-    put_lines(lines, |place| ranks[place.0 as usize] != 0, room);
+    let front = &mut room[..2 * kept];
+    pack_lines(lines, |place| ranks[place.0 as usize] != 0, front);
     Ok(kept)
 }

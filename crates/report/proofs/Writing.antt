@@ -6,8 +6,8 @@ use mathlib.Core.List.{List, [], ◌∷◌, ◌++◌, append_assoc, append-nil}
 use native.Mathlib.Omega.{arith}
 use native.Mathlib.Nat.{zero-add}
 use native.Mathlib.Numerals.{add-one}
-use lib.ListN.{length, set, take, drop, length-append, length-drop, take-append-drop}
-use lib.Seq.{length-take-le, take_at, drop-drop, drop-append-add, set_split}
+use lib.ListN.{length, get_or, set, take, drop, length-append, length-drop, take-append-drop}
+use lib.Seq.{length-take-le, take-suc, take_at, drop-drop, drop-append-add, set_split}
 use Rattle.report.specs.Writing.{Puts}
 
 -- A part of no bytes changes nothing.
@@ -43,6 +43,14 @@ module _ {before part after : List ℕ} {at next : ℕ} (p : Puts before at part
         ends = simp length-append (omega arith);
         fits = omega arith;
       }
+
+-- One byte more of a word.
+pub puts_more : {before after : List ℕ} (word : List ℕ) (at i : ℕ) → Puts before at (take i word) after (at + i) → i < length word → at + i < length after
+    → Puts before at (take (i + 1) word) (set after (at + i) (get_or word i 0)) (at + (i + 1))
+puts_more {before} {after} word at i p h k =
+    let part : take i word ++ (get_or word i 0 ∷ []) ≡ take (i + 1) word = rw add-one (sym (take-suc word i 0 h)) in
+    let next : at + i + 1 ≡ at + (i + 1) = omega arith in
+    rw (part, next) at (puts_then p (puts_byte after (at + i) (get_or word i 0) k))
 
 -- A part at the front.
 pub puts_front : {before part after : List ℕ} {next : ℕ} → Puts before 0 part after next → (next ≡ length part) × (after ≡ part ++ drop (length part) before)

@@ -28,9 +28,10 @@ pub fn put_word(text: &mut [u8], at: usize, word: &[u8]) -> usize
     requires { at + length word.now ≤ length text.old }
     ensures put { Puts text.old at word.now text.new result }
 {
-    let end = at + word.len();
-    text[at..end].copy_from_slice(word);
-    end
+    for (i, byte) in word.iter().enumerate() {
+        text[at + i] = *byte;
+    }
+    at + word.len()
 }
 
 // Writes the digits of a number: those of x / 10, then x % 10.

@@ -8,13 +8,14 @@ use native.Mathlib.Numerals.{add-one}
 use native.Mathlib.Omega.{arith}
 use borrow.Author.Tests.{lt-ltb}
 use lib.Dec.{ltb}
-use lib.ListN.{length, get_or, take, drop, length-append}
-use lib.Seq.{take-length, drop-drop}
+use lib.ListN.{length, get_or, set, take, drop, length-append}
+use lib.Seq.{take-length, drop-drop, length-take-le, take-suc}
 use Rattle.std.specs.List.{count_by, range_with_len}
 use Rattle.std.proofs.lemmas.List.Sums.{count_by_more_yes, count_by_more_no}
 use Rattle.std.proofs.lemmas.List.FromFn.{length-range_with_len, get_or-range_with_len}
 use Rattle.laws.specs.Fold.{pick, up_to}
 use Rattle.laws.specs.Count.{bit, count}
+use Rattle.laws.proofs.Lists.{store_next}
 use Rattle.laws.proofs.Truth.{not_so}
 use Rattle.bits.specs.Sets.{is_in}
 use Rattle.network.specs.Lines.{end_one, end_two, Joins.forth}
@@ -66,6 +67,12 @@ module _ (test : ℕ → Bool) (n : ℕ) where
 pub new_count : (again : List ℕ) (n : ℕ) → count_by (λ p. not (is_in again p)) (range_with_len 0 n) ≡ count n (is_new again)
 unfolding is_new
 new_count again n = count_range (is_new again) n
+
+-- One number more of a list that is copied from the front.
+pub copy_next : (lines room : List ℕ) (i : ℕ) → i < length lines → i < length room
+    → set (take i lines ++ drop i room) i (get_or lines i 0) ≡ take (i + 1) lines ++ drop (i + 1) room
+copy_next lines room i h k =
+    store_next (take i lines) room i (get_or lines i 0) (length-take-le i lines (omega arith)) k ∙ rw (add-one i, take-suc lines i 0 h)
 
 module _ (again first second : List ℕ) (marks : Marks first second again) where
   -- a line is new just where the first list lacks it

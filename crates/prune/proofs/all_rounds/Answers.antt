@@ -1,7 +1,7 @@
 -- `prune::all_rounds` meets its contract. Assumes nothing.
 use Prim.Native.Nat.{ℕ, ◌+◌, ◌*◌, ◌-◌, ◌≤◌}
 use mathlib.Core.Path.{◌≡◌, refl, sym, ap, ap₂, ◌∙◌}
-use mathlib.Core.List.{[], append-nil}
+use mathlib.Core.List.{List, [], ◌++◌, append-nil}
 use native.Mathlib.Nat.{zero-mul, add-sub_cancel_left}
 use native.Mathlib.Omega.{arith}
 use lib.ListN.{length, take, drop, length-append, length-take, length-drop}
@@ -15,6 +15,14 @@ use Rattle.ranks.proofs.Asked.{in_order_each}
 use Rattle.rule.proofs.Rounds.{one_more}
 use Rattle.prune.proofs.all_rounds.Goals as goal
 use Rattle.prune.proofs.all_rounds.Goals.{In-loop-done}
+
+-- A part of the orders is lent and comes back by where it begins, whatever the sum by which that is reckoned.
+part_size : (orders : List ℕ) {at : ℕ} (begin n m : ℕ) → at ≡ begin → begin + n ≤ length orders → m ≡ length (take (at + n - at) (drop at orders)) → m ≡ n
+part_size orders {at} begin n m e h f = f ∙ rw e (simp (add-sub_cancel_left, length-take, length-drop) (omega (arith, h)))
+
+part_same : (orders part : List ℕ) {at : ℕ} (begin n : ℕ) → at ≡ begin
+    → take at orders ++ (part ++ drop (at + n - at) (drop at orders)) ≡ take begin orders ++ (part ++ drop (begin + n - begin) (drop begin orders))
+part_same orders part begin n e = rw e
 
 -- within the loop, the next round's part is within the orders
 part_in : (c : In-loop-done) → c.loop-done.done * c.args.n + c.args.n ≤ length c.loop-done.orders
@@ -32,7 +40,7 @@ one_round-requires c =
       scannable_alike p.0 c.loop-done.invariant.0,
       in_order_each p.1,
       omega (arith, p.1.count),
-      simp (add-sub_cancel_left, length-take, length-drop) (omega (arith, h)),
+      part_size c.loop-done.orders (c.loop-done.done * c.args.n) c.args.n _ (omega arith) h refl,
     )
 
 pub loop-done-preserved : goal.loop-done-preserved
@@ -45,13 +53,13 @@ loop-done-preserved c =
     let z = rounds a.ranks.now [] in
     let at = l.done * a.n in
     let h = part_in (goal.at.loop-done-preserved c).In-loop-done in
-    let part : length (take (at + a.n - at) (drop at l.orders)) ≡ a.n = simp (add-sub_cancel_left, length-take, length-drop) (omega (arith, h)) in
+    let size : length d.new.order ≡ a.n = part_size l.orders at a.n (length d.new.order) (omega arith) h d.auto.order in
     let w = one_more a.n a.lines.now a.starts.now l.done at (up_to f z l.done) a.orders.now l.ranks l.orders
-    d.new.ranks d.new.order i.2 i.3 i.4 d.ensures.ranks d.ensures.order (d.auto.order ∙ part) in (
+    d.new.ranks d.new.order i.2 i.3 i.4 d.ensures.ranks d.ensures.order size in (
       d.auto.ranks ∙ i.0,
-      simp (length-append, length-take, length-drop) (omega (arith, i.1, h, d.auto.order ∙ part)),
+      ap length (part_same l.orders d.new.order at a.n (omega arith)) ∙ simp (length-append, length-take, length-drop) (omega (arith, i.1, h, size)),
       rw (up_to_more f z l.done, part_next l.done a.n) w.longer,
-      rw (up_to_more f z l.done, part_next l.done a.n) w.filled,
+      part_same l.orders d.new.order at a.n (omega arith) ∙ rw (up_to_more f z l.done, part_next l.done a.n) w.filled,
       rw (up_to_more f z l.done) w.ranked,
     )
 

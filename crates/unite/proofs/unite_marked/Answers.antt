@@ -68,4 +68,4 @@ unfolding is_new after
 returns-clause-room c =
     let a = c.args in
     let put = c.put_lines.ensures.put (is_new a.again.now) (record { says = λ place answer l e. search rules }) in
-    rw (c.copy_from_slice.ensures.after, put, c.split_at_mut-front.ensures.back) (united_front a.again.now a.first.now a.second.now c.requires.2 a.room.now)
+    rw (c.copy_list.ensures.copied, put, c.split_at_mut-front.ensures.back) (united_front a.again.now a.first.now a.second.now c.requires.2 a.room.now)

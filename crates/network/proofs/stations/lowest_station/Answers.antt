@@ -1,12 +1,14 @@
 -- `network::lowest_station` meets its contract: what the test says of a station is what any test says of which it tells. Assumes nothing.
-use mathlib.Core.Path.{◌≡◌, refl, sym, ◌∙◌}
+use Prim.Native.Nat.{ℕ, ◌-◌}
+use mathlib.Core.Path.{◌≡◌, sym, ap, ◌∙◌}
 use mathlib.Core.Bool.{true, false}
 use native.Mathlib.Omega.{arith}
+use Rattle.laws.specs.Fold.{first_from}
 use Rattle.laws.proofs.Fold.{first_next, first_here, first_none}
 use Rattle.network.proofs.stations.lowest_station.Goals as goal
 
 pub loop-v-init : goal.loop-v-init
-loop-v-init g c = λ passes told. refl
+loop-v-init g c = λ passes told. ap (λ (v : ℕ). first_from passes (λ v. v) c.args.n v (c.args.n - v)) (omega arith)
 
 pub returns-then-test-clause-lowest : goal.returns-then-test-clause-lowest
 returns-then-test-clause-lowest g c = λ passes told.
