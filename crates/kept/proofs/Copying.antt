@@ -1,14 +1,17 @@
 -- The laws of copying: how many numbers are copied, which ranks matter, when it is not refused, and what two stores make of a buffer filled from
 -- the front.
 -- Assumes nothing.
-use Prim.Native.Nat.{ℕ, zero, suc, ◌+◌, ◌*◌, ◌/◌, ◌<◌, ◌≤◌}
+use Prim.Native.Nat.{ℕ, zero, suc, ◌+◌, ◌-◌, ◌*◌, ◌/◌, ◌<◌, ◌≤◌}
 use mathlib.Core.Path.{◌≡◌, refl, sym, ap, ◌∙◌}
 use mathlib.Core.Bool.{Bool, true, false}
 use mathlib.Core.List.{List, [], ◌∷◌, ◌++◌, append_assoc, append-nil}
 use native.Mathlib.Omega.{arith}
-use borrow.Author.Tests.{le-ltb}
-use lib.ListN.{length, set, take, drop, length-append, get_or-append}
-use lib.Seq.{length-take-le, get_or-take, take_at}
+use borrow.Author.Tests.{le-ltb, eq-eqb, ne_eqb}
+use lib.ListN.{length, get_or, set, take, drop, length-append, length-set, length-take, length-drop, take-append-drop, get_or-append}
+use lib.Seq.{length-take-le, get_or-take, take_at, set-append_left}
+use Rattle.std.proofs.lemmas.List.{set-append_right}
+use borrow.Rule.Slice.PartMut.{mid_of, post_of, put_mid, put_same as part_same}
+use Rattle.std.specs.Prelude.{◌≢◌}
 use Rattle.laws.specs.Fold.{pick, up_to}
 use Rattle.laws.specs.Count.{bit, count}
 use Rattle.laws.proofs.Fold.{up_to_more}
@@ -55,6 +58,13 @@ pub kept_length : (lines ranks : List ℕ) → length (kept_lines lines ranks) �
 unfolding kept_lines kept_of
 kept_length lines ranks = copy_size lines ranks (length lines / 2)
 
+-- One rank more is counted where it is not 0.
+pub rank_counted : (ranks : List ℕ) (p kept : ℕ) → kept ≡ count p (is_kept ranks) → get_or ranks p 0 ≢ 0 → kept + 1 ≡ count (p + 1) (is_kept ranks)
+rank_counted ranks p kept e h = sym (count_more (is_kept ranks) p ∙ rw (ne_eqb (get_or ranks p 0) 0 h) (omega (arith, e)))
+
+pub rank_passed : (ranks : List ℕ) (p kept : ℕ) → kept ≡ count p (is_kept ranks) → get_or ranks p 0 ≡ 0 → kept ≡ count (p + 1) (is_kept ranks)
+rank_passed ranks p kept e h = sym (count_more (is_kept ranks) p ∙ rw (eq-eqb (get_or ranks p 0) 0 h) (omega (arith, e)))
+
 -- Counting the first m ranks counts the kept lines.
 pub kept_of_lem : (lines ranks : List ℕ) → length lines / 2 ≤ length ranks → kept_count (take (length lines / 2) ranks) ≡ kept_of lines ranks
 unfolding kept_count kept_of
@@ -91,13 +101,30 @@ store_two front before at a b e h =
     let one : length (front ++ (a ∷ [])) ≡ at + 1 = simp length-append (omega arith) in
     rw (store_next front before at a e (omega arith), store_next (front ++ (a ∷ [])) before (at + 1) b one (omega arith), two, append_assoc front (a ∷ []) (b ∷ []))
 
+-- Two stores at the front of a part of a room are stored at its place in the room.
+pub part_stored : (room : List ℕ) (at k a b : ℕ) → 2 ≤ length (mid_of at k room)
+    → put_mid at k room (set (set (mid_of at k room) 0 a) 1 b) ≡ set (set room at a) (at + 1) b
+part_stored room at k a b h =
+    let part = mid_of at k room in
+    let past = post_of at k room in
+    let rest = drop at room in
+    let inside : at + 2 ≤ length room = omega (arith, h, length-take k rest, length-drop at room) in
+    let before : length (take at room) ≡ at = length-take-le at room (omega arith) in
+    let one : set part 0 a ++ past ≡ set rest 0 a = sym (set-append_left part past 0 a (omega arith)) ∙ ap (λ l. set l 0 a) (take-append-drop k rest) in
+    let two : set (set part 0 a) 1 b ++ past ≡ set (set rest 0 a) 1 b = sym (set-append_left (set part 0 a) past 1 b (simp length-set (omega arith))) ∙ ap (λ l. set l 1 b) one in
+    let zero_on : at - at ≡ 0 = omega arith in
+    let one_on : at + 1 - at ≡ 1 = omega arith in
+    let first : set (take at room ++ rest) at a ≡ take at room ++ set rest 0 a = set-append_right (take at room) rest at at a before (omega arith) ∙ rw zero_on refl in
+    let both : set (take at room ++ set rest 0 a) (at + 1) b ≡ take at room ++ set (set rest 0 a) 1 b = set-append_right (take at room) (set rest 0 a) at (at + 1) b before (omega arith) ∙ rw one_on refl in
+    ap (λ l. take at room ++ l) two ∙ sym both ∙ ap (λ l. set l (at + 1) b) (sym first) ∙ ap (λ l. set (set l at a) (at + 1) b) (take-append-drop at room)
+
+-- Behind the lines before p there are two places for the line at p, if it is chosen.
+pub line_left : (chosen : ℕ → Bool) (lines : List ℕ) {p at : ℕ} (m : ℕ) → length (up_to (put_line chosen lines) [] p) ≡ at → p < m → at + 2 * bit (chosen p) ≤ 2 * count m chosen
+line_left chosen lines {p} m size l = omega (arith, size, put_size chosen lines p, count_more chosen p, count_rise chosen (p + 1) m (omega arith))
+
 -- The chosen lines before p fill the front of a room.
 module _ (chosen : ℕ → Bool) (lines : List ℕ) {before : List ℕ} {p at : ℕ} {room : List ℕ} (filled : Filled (up_to (put_line chosen lines) [] p) before at room) where
-  -- a line more that is chosen has its two places
-  pub two_left : (m : ℕ) → p < m → chosen p ≡ true → at + 2 ≤ 2 * count m chosen
-  two_left m l e = omega (arith, filled.size, put_size chosen lines p, rw e at (count_more chosen p), count_rise chosen (p + 1) m (omega arith))
-
-  -- its two ends are stored behind them
+  -- the two ends of a line that is chosen are stored behind them
   pub put_more : chosen p ≡ true → at + 2 ≤ length before
       → Filled (up_to (put_line chosen lines) [] (p + 1)) before (at + 2) (set (set room at (end_one lines p)) (at + 1) (end_two lines p))
   put_more e h =
@@ -109,3 +136,10 @@ module _ (chosen : ℕ → Bool) (lines : List ℕ) {before : List ℕ} {p at : 
   -- a line that is not chosen changes nothing
   pub put_same : chosen p ≡ false → Filled (up_to (put_line chosen lines) [] (p + 1)) before at room
   put_same e = rw (up_to_more (put_line chosen lines) [] p, e) filled
+
+  -- so a part of the room that begins behind them takes the line just where it is chosen
+  pub put_step : (b : Bool) → chosen p ≡ b → (k : ℕ) → 2 * bit b ≤ length (mid_of at k room) → at + 2 * bit b ≤ length before
+      → Filled (up_to (put_line chosen lines) [] (p + 1)) before (at + 2 * bit b)
+      (put_mid at k room (pick b (set (set (mid_of at k room) 0 (end_one lines p)) 1 (end_two lines p)) (mid_of at k room)))
+  put_step true e k h fits = rw (part_stored room at k (end_one lines p) (end_two lines p) h) (put_more e fits)
+  put_step false e k h fits = let zero_more : at + 0 ≡ at = omega arith in rw (zero_more, part_same at k room) (put_same e)

@@ -11,11 +11,10 @@ use Rattle.std.proofs.lemmas.List.{take-set-le, take_more_set, take_all}
 use Rattle.laws.specs.Fold.{up_to}
 use Rattle.laws.specs.Count.{count}
 use Rattle.laws.proofs.Fold.{up_to_more}
-use Rattle.laws.proofs.Count.{count_more, count_rise}
 use Rattle.network.specs.Lines.{end_one, end_two}
 use Rattle.kept.specs.Filled.{Fronted}
 use Rattle.kept.specs.Kept.{put_line, chosen_lines}
-use Rattle.kept.proofs.Copying.{put_size}
+use Rattle.kept.proofs.Copying.{put_size, line_left}
 
 -- Before the first line nothing stands in front.
 pub pack_none : (chosen : ℕ → Bool) (lines room : List ℕ) → Fronted (up_to (put_line chosen lines) [] 0) 0 room
@@ -24,11 +23,7 @@ pack_none chosen lines room = record { size = refl; is = refl }
 
 -- The chosen lines before p stand at the front of a room.
 module _ (chosen : ℕ → Bool) (lines : List ℕ) {p at : ℕ} {room : List ℕ} (fronted : Fronted (up_to (put_line chosen lines) [] p) at room) where
-  -- a line more that is chosen has its two places
-  pub more_left : (m : ℕ) → p < m → chosen p ≡ true → at + 2 ≤ 2 * count m chosen
-  more_left m l e = omega (arith, fronted.size, put_size chosen lines p, rw e at (count_more chosen p), count_rise chosen (p + 1) m (omega arith))
-
-  -- its two ends stay behind them
+  -- the two ends of a line that is chosen stay behind them
   pub pack_more : chosen p ≡ true → at + 2 ≤ length room
       → Fronted (up_to (put_line chosen lines) [] (p + 1)) (at + 2) (set (set room at (end_one lines p)) (at + 1) (end_two lines p))
   pack_more e h =
@@ -61,7 +56,7 @@ module _ (chosen : ℕ → Bool) (lines : List ℕ) {p at : ℕ} {room : List �
   pack_full m l full = go (chosen p) refl
     where
       go : (b : Bool) → chosen p ≡ b → Fronted (up_to (put_line chosen lines) [] (p + 1)) at room
-      go true e = absurd (omega (arith, more_left m l e))
+      go true e = absurd (omega (arith, rw e at (line_left chosen lines m fronted.size l)))
       go false e = rw (up_to_more (put_line chosen lines) [] p, e) fronted
 
 -- Where they fill the room, no line after them is chosen.

@@ -1,8 +1,9 @@
 // The kept lines of a list: counted, and copied out; and copying out whichever lines of a list are chosen.
 #![tactic(auto)]
 
-ghost use Rattle.std.specs.Prelude.{◌≡◌, Bool, ◌++◌, ℕ, ◌*◌, ◌/◌, ◌≤◌, ◌<◌, length, drop};
-ghost use Rattle.laws.specs.Count.{count};
+ghost use Rattle.std.specs.Prelude.{◌≡◌, Bool, ◌++◌, ℕ, ◌*◌, ◌/◌, ◌≤◌, ◌<◌, length, set, drop};
+ghost use Rattle.laws.specs.Count.{bit, count};
+ghost use Rattle.laws.specs.Fold.{pick};
 ghost use Rattle.kinds.specs.declared.Place.{Place};
 ghost use Rattle.kept.specs.Answers.{CopyAllows};
 ghost use Rattle.kept.specs.Chosen.{Chooses};
@@ -10,9 +11,10 @@ ghost use Rattle.kept.specs.Kept.{chosen_lines, kept_count, kept_of};
 
 use kinds::{LineList, Place, Refusal};
 use limits::judge_length;
-use network::{line_at, line_places};
+use network::{Line, line_at, line_places};
 
 // The number of nonzero ranks.
+#[tactic(auto, unfolding(crate::specs::Kept::kept_count), using(crate::proofs::Copying::rank_counted, crate::proofs::Copying::rank_passed))]
 pub fn count_kept(ranks: &[u8]) -> usize
     ensures count { result ≡ kept_count ranks.now }
 {
@@ -25,6 +27,20 @@ pub fn count_kept(ranks: &[u8]) -> usize
     kept
 }
 
+// Puts the two ends of a line at the front of the room if the line is chosen: how many numbers are put.
+fn put_chosen(line: Line, chosen: bool, room: &mut [u16]) -> usize
+    requires { 2 * bit chosen ≤ length room.old }
+    ensures count { result ≡ 2 * bit chosen }
+    ensures put { room.new ≡ pick chosen (set (set room.old 0 line.one.0) 1 line.two.0) room.old }
+{
+    if chosen {
+        room[0] = line.one.0;
+        room[1] = line.two.0;
+        return 2;
+    }
+    0
+}
+
 // Puts the chosen lines of a list, in list order, at the front of the room; what stands behind them stays.
 pub fn put_lines<F: Fn(Place) -> bool>(lines: &[u16], chosen: F, room: &mut [u16])
     requires few { length lines.now ≤ 16384 }
@@ -34,12 +50,7 @@ pub fn put_lines<F: Fn(Place) -> bool>(lines: &[u16], chosen: F, room: &mut [u16
 {
     let mut at = 0;
     for place in line_places(lines) {
-        if chosen(place) {
-            let line = line_at(lines, place);
-            room[at] = line.one.0;
-            room[at + 1] = line.two.0;
-            at += 2;
-        }
+        at += put_chosen(line_at(lines, place), chosen(place), &mut room[at..]);
     }
 }
 
@@ -64,6 +75,7 @@ fn pack_lines<F: Fn(Place) -> bool>(lines: &[u16], chosen: F, room: &mut [u16])
 }
 
 // The number of nonzero ranks of one list: so few are counted in 16 bits, of which the machine code adds eight at once.
+#[tactic(auto, unfolding(crate::specs::Kept::kept_count), using(crate::proofs::Copying::rank_counted, crate::proofs::Copying::rank_passed))]
 fn count_few(ranks: &[u8]) -> u16
     requires { length ranks.now ≤ 8192 }
     ensures count { result ≡ kept_count ranks.now }
