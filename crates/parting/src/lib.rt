@@ -5,7 +5,7 @@ ghost use Rattle.std.specs.Prelude.{◌≡◌, ◌≤◌, ◌<◌, length, IfSom
 ghost use Rattle.laws.specs.Fold.{lowest};
 ghost use Rattle.network.specs.Stations.{number_or};
 ghost use Rattle.pieces.specs.Away.{is_gone, Unmarked, Gone};
-ghost use Rattle.parting.specs.Standing.{lowest_remaining, without};
+ghost use Rattle.parting.specs.Standing.{Standing.weak, lowest_remaining, without};
 ghost use Rattle.parting.specs.Looking.{is_apart, marked, Below};
 ghost use Rattle.parting.specs.Answers.{spot_stations, found_standing};
 
@@ -56,6 +56,13 @@ fn lowest_apart(n: usize, one: Station, gone: &[bool], pieces: &[u16]) -> Option
     lowest_station(Station(0), n, |v| is_apart(one, v, gone, pieces))
 }
 
+// What is found where the stations of a spot part one station from another.
+fn found_at(spot: Spot, one: Station, two: Station) -> Option<WeakSpot>
+    ensures found { found_standing result ≡ weak (spot_stations spot) one.0 two.0 }
+{
+    Some(WeakSpot { spot, one, two })
+}
+
 // Looks whether what remains without the stations of a spot is parted: the lowest remaining station from the lowest that is not joined to it.
 pub fn look(
     network: &SoundNetwork,
@@ -69,7 +76,7 @@ pub fn look(
     let one = lowest_remaining(network.n, gone)?;
     find_pieces(network, gone, pieces);
     let two = lowest_apart(network.n, one, gone, pieces)?;
-    Some(WeakSpot { spot, one, two })
+    found_at(spot, one, two)
 }
 
 // Marks each station of a spot as taken away, or as one that remains.

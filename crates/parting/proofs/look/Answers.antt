@@ -26,4 +26,4 @@ pub returns : goal.returns
 returns c =
     let a = c.args in
     let p = c.requires in
-    record { found = looked_apart a.network.now.n a.network.now.lines.now (spot_stations a.spot) a.gone.now a.network.now.sound.simple.proper p.0 p.2 c.find_pieces.new.pieces c.find_pieces.ensures.pieces _ _ c.in_ok-one.ensures.lowest c.in_ok-two.ensures.lowest c.in_ok-two.ensures.station }
+    record { found = rw c.found_at.ensures.found (looked_apart a.network.now.n a.network.now.lines.now (spot_stations a.spot) a.gone.now a.network.now.sound.simple.proper p.0 p.2 c.find_pieces.new.pieces c.find_pieces.ensures.pieces _ _ c.in_ok-one.ensures.lowest c.in_ok-two.ensures.lowest c.in_ok-two.ensures.station) }
