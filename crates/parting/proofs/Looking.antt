@@ -60,7 +60,7 @@ module _ (n : ℕ) (lines spot : List ℕ) (gone : List Bool) (proper : Proper (
   looked_apart pieces e a b x y h =
       rw (← remaining_same, ← x, ← (apart_same pieces e a), ← y, lt-ltb b n h)
 
--- ── stations taken away, and put back ──
+-- ── stations taken away ──
 
 -- No mark is set: none is taken away.
 pub unmarked_gone : (gone : List Bool) → Unmarked gone → Gone [] gone

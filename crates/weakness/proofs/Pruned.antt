@@ -1,5 +1,5 @@
--- A sound list, pruned from station 0 at a level from 1 to 3: the request is in order, and the kept lines, of which there are few, have the
--- list's own weak spot. Assumes nothing.
+-- A sound list, pruned from station 0 at a level from 1 to 3: the kept lines, of which there are few, have the list's own weak spot.
+-- Assumes nothing.
 use Prim.Native.Nat.{ℕ, ◌-◌, ◌*◌, ◌≤◌}
 use mathlib.Core.Path.{◌≡◌, ◌∙◌}
 use mathlib.Core.List.{List, ◌++◌}
