@@ -58,7 +58,7 @@ pub kept_length : (lines ranks : List ℕ) → length (kept_lines lines ranks) �
 unfolding kept_lines kept_of
 kept_length lines ranks = copy_size lines ranks (length lines / 2)
 
--- One rank more is counted where it is not 0.
+-- One rank more is counted where it is not 0, and passed over where it is.
 pub rank_counted : (ranks : List ℕ) (p kept : ℕ) → kept ≡ count p (is_kept ranks) → get_or ranks p 0 ≢ 0 → kept + 1 ≡ count (p + 1) (is_kept ranks)
 rank_counted ranks p kept e h = sym (count_more (is_kept ranks) p ∙ rw (ne_eqb (get_or ranks p 0) 0 h) (omega (arith, e)))
 

@@ -57,10 +57,10 @@ fn lowest_apart(n: usize, one: Station, gone: &[bool], pieces: &[u16]) -> Option
 }
 
 // What is found where the stations of a spot part one station from another.
-fn found_at(spot: Spot, one: Station, two: Station) -> Option<WeakSpot>
-    ensures found { found_standing result ≡ weak (spot_stations spot) one.0 two.0 }
+fn found_at(spot: Spot, one: Station, two: Station) -> WeakSpot
+    ensures found { found_standing (Some result) ≡ weak (spot_stations spot) one.0 two.0 }
 {
-    Some(WeakSpot { spot, one, two })
+    WeakSpot { spot, one, two }
 }
 
 // Looks whether what remains without the stations of a spot is parted: the lowest remaining station from the lowest that is not joined to it.
@@ -76,7 +76,7 @@ pub fn look(
     let one = lowest_remaining(network.n, gone)?;
     find_pieces(network, gone, pieces);
     let two = lowest_apart(network.n, one, gone, pieces)?;
-    found_at(spot, one, two)
+    Some(found_at(spot, one, two))
 }
 
 // Marks each station of a spot as taken away, or as one that remains.

@@ -1,4 +1,4 @@
--- Uniting as its loop speaks of it: it asks the set of places whose lines stand in the first list, and not the first list itself.
+-- Uniting as `unite_marked` speaks of it: by the set of places whose lines stand in the first list, and not by the first list itself.
 -- Assumes nothing.
 use Rattle.std.specs.Prelude.{ℕ, ◌/◌, ◌<◌, ◌≡◌, Bool, not, List, length}
 use Rattle.bits.specs.Sets.{is_in}

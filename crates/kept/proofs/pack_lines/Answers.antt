@@ -1,9 +1,10 @@
 -- `kept::pack_lines` meets its contract: a room that the chosen lines just fill has place for two numbers more as long as it is not full.
 -- Assumes nothing.
 use Prim.Native.Nat.{◌+◌, ◌/◌, ◌≤◌}
-use mathlib.Core.Path.{◌≡◌, sym, ◌∙◌}
+use mathlib.Core.Path.{◌≡◌, sym, ap, ◌∙◌}
 use native.Mathlib.Omega.{arith}
 use lib.ListN.{length, length-set}
+use Rattle.network.specs.Lines.{end_one, end_two}
 use Rattle.kept.specs.Kept.{chosen_lines}
 use Rattle.kept.proofs.Copying.{put_size}
 use Rattle.kept.proofs.Packing.{pack_none, pack_step, pack_rest, pack_all}
@@ -30,12 +31,16 @@ pub loop-place-preserved : goal.loop-place-preserved
 loop-place-preserved g c =
     let (ends, most, fronted) = c.loop-place.invariant in
     let (same, (below, is, more)) = c.in-Some.ensures.steps in
-    let (one, two) = c.line_at-ends.ensures.ends in (
+    let (one, two) = c.line_at-ends.ensures.ends in
+    let lines = c.args.lines.now in
+    let next = c.loop-place.place-iterator.next in
+    let first : c.line_at-ends.result.one.0 ≡ end_one lines next = one ∙ ap (end_one lines) (omega arith) in
+    let second : c.line_at-ends.result.two.0 ≡ end_two lines next = two ∙ ap (end_two lines) (omega arith) in (
       omega arith,
       omega arith,
       λ test says fits.
-          let e = sym (says.says _ c.chosen.result (omega arith) c.chosen.ensures) in
-          rw (c.from.ensures, more, one, two, is) (pack_step test c.args.lines.now (fronted test says fits) c.chosen.result (rw is at e) (left g (goal.at.loop-place-preserved g c).After-line_at-ends)),
+          let e : c.chosen.result ≡ test next = says.says _ c.chosen.result (omega arith) c.chosen.ensures ∙ ap test (omega arith) in
+          rw (c.from.ensures, more, first, second) (pack_step test lines (fronted test says fits) c.chosen.result (sym e) (left g (goal.at.loop-place-preserved g c).After-line_at-ends)),
     )
 
 pub returns-then-room-at : goal.returns-then-room-at

@@ -56,13 +56,13 @@ loop-place-preserved g c =
     let next = c.loop-place.place-iterator.next in
     let first : c.line_at.result.one.0 ≡ end_one lines next = one ∙ ap (end_one lines) (omega arith) in
     let second : c.line_at.result.two.0 ≡ end_two lines next = two ∙ ap (end_two lines) (omega arith) in
-    let at_chosen = (goal.at.loop-place-preserved g c).After-chosen in (
+    let asked = (goal.at.loop-place-preserved g c).After-chosen in (
       omega arith,
       omega arith,
       λ test says.
           rw (c.put_chosen-at.ensures.count, c.put_chosen-at.ensures.put, more, first, second)
-          (put_step test lines (filled test says) c.chosen.result (sym (answered g at_chosen test says)) _ (part_left g at_chosen)
-          (omega (arith, c.loop-place.auto.room, left g at_chosen))),
+          (put_step test lines (filled test says) c.chosen.result (sym (answered g asked test says)) _ (part_left g asked)
+          (omega (arith, c.loop-place.auto.room, left g asked))),
     )
 
 pub returns : goal.returns
