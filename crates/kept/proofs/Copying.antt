@@ -7,10 +7,10 @@ use mathlib.Core.Bool.{Bool, true, false}
 use mathlib.Core.List.{List, [], ◌∷◌, ◌++◌, append_assoc, append-nil}
 use native.Mathlib.Omega.{arith}
 use borrow.Author.Tests.{le-ltb, eq-eqb, ne_eqb}
-use lib.ListN.{length, get_or, set, take, drop, length-append, length-set, length-take, length-drop, take-append-drop, get_or-append}
+use lib.ListN.{length, get_or, set, take, drop, length-append, length-set, length-take, length-drop, get_or-append}
 use lib.Seq.{length-take-le, get_or-take, take_at, set-append_left}
 use Rattle.std.proofs.lemmas.List.{set-append_right}
-use borrow.Rule.Slice.PartMut.{mid_of, post_of, put_mid, put_same as part_same}
+use borrow.Rule.Slice.PartMut.{mid_of, post_of, put_mid, set_mid_at, put_same as part_same}
 use Rattle.std.specs.Prelude.{◌≢◌}
 use Rattle.laws.specs.Fold.{pick, up_to}
 use Rattle.laws.specs.Count.{bit, count}
@@ -101,22 +101,23 @@ store_two front before at a b e h =
     let one : length (front ++ (a ∷ [])) ≡ at + 1 = simp length-append (omega arith) in
     rw (store_next front before at a e (omega arith), store_next (front ++ (a ∷ [])) before (at + 1) b one (omega arith), two, append_assoc front (a ∷ []) (b ∷ []))
 
--- Two stores at the front of a part of a room are stored at its place in the room.
+-- A store in a part of a room is one at its place in the room, also where the part holds something else by now.
+part_store : (room part : List ℕ) (at k j v : ℕ) → at ≤ length room → j < length part → put_mid at k room (set part j v) ≡ set (put_mid at k room part) (at + j) v
+part_store room part at k j v within h =
+    let past = post_of at k room in
+    let j_on : at + j - at ≡ j = omega arith in
+    ap (λ l. take at room ++ l) (sym (set-append_left part past j v h))
+    ∙ sym (set-append_right (take at room) (part ++ past) at (at + j) v (length-take-le at room within) (omega arith) ∙ rw j_on refl)
+
+-- Two stores at the front of the part likewise.
 pub part_stored : (room : List ℕ) (at k a b : ℕ) → 2 ≤ length (mid_of at k room)
     → put_mid at k room (set (set (mid_of at k room) 0 a) 1 b) ≡ set (set room at a) (at + 1) b
 part_stored room at k a b h =
     let part = mid_of at k room in
-    let past = post_of at k room in
-    let rest = drop at room in
-    let inside : at + 2 ≤ length room = omega (arith, h, length-take k rest, length-drop at room) in
-    let before : length (take at room) ≡ at = length-take-le at room (omega arith) in
-    let one : set part 0 a ++ past ≡ set rest 0 a = sym (set-append_left part past 0 a (omega arith)) ∙ ap (λ l. set l 0 a) (take-append-drop k rest) in
-    let two : set (set part 0 a) 1 b ++ past ≡ set (set rest 0 a) 1 b = sym (set-append_left (set part 0 a) past 1 b (simp length-set (omega arith))) ∙ ap (λ l. set l 1 b) one in
-    let zero_on : at - at ≡ 0 = omega arith in
-    let one_on : at + 1 - at ≡ 1 = omega arith in
-    let first : set (take at room ++ rest) at a ≡ take at room ++ set rest 0 a = set-append_right (take at room) rest at at a before (omega arith) ∙ rw zero_on refl in
-    let both : set (take at room ++ set rest 0 a) (at + 1) b ≡ take at room ++ set (set rest 0 a) 1 b = set-append_right (take at room) (set rest 0 a) at (at + 1) b before (omega arith) ∙ rw one_on refl in
-    ap (λ l. take at room ++ l) two ∙ sym both ∙ ap (λ l. set l (at + 1) b) (sym first) ∙ ap (λ l. set (set l at a) (at + 1) b) (take-append-drop at room)
+    let inside : at + 2 ≤ length room = omega (arith, h, length-take k (drop at room), length-drop at room) in
+    let zero_on : at + 0 ≡ at = omega arith in
+    part_store room (set part 0 a) at k 1 b (omega arith) (simp length-set (omega arith))
+    ∙ ap (λ l. set l (at + 1) b) (set_mid_at at k 0 room a (omega arith) ∙ rw zero_on refl)
 
 -- Behind the lines before p there are two places for the line at p, if it is chosen.
 pub line_left : (chosen : ℕ → Bool) (lines : List ℕ) {p at : ℕ} (m : ℕ) → length (up_to (put_line chosen lines) [] p) ≡ at → p < m → at + 2 * bit (chosen p) ≤ 2 * count m chosen
